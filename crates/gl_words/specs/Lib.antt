@@ -1,0 +1,3 @@
+pub mod Call
+pub mod CallOf
+pub mod Kind
