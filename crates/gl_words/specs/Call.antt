@@ -1,10 +1,18 @@
 -- The table of calls, a column a definition. Its names and numbers are this project's own; the calls and their arguments are those of OpenGL ES 1.1.12.
-use Rattle.std.specs.Prelude.{ℕ, ℤ, pos, List, [], ◌∷◌}
+use Rattle.std.specs.Prelude.{Bool, true, false, ℕ, ℤ, pos, List, [], ◌∷◌, codes}
 use Rattle.gl_words.specs.Kind.{AreOfKinds}
 use Rattle.gl_words.specs.declared.shape.ArgKind.{ArgKind}
 use Rattle.gl_words.specs.declared.shape.ArgKind.TheVariants.{Unsigned, Fixed}
 use Rattle.gl_words.specs.declared.call.Call.{Call}
 use Rattle.gl_words.specs.declared.call.Call.TheVariants.{Clear, ClearColorx, Finish, Flush, GetError}
+
+-- the name of a call
+unfoldable pub name_of : Call → List ℕ
+name_of (Clear mask) = codes "Clear"
+name_of (ClearColorx red green blue alpha) = codes "ClearColorx"
+name_of Finish = codes "Finish"
+name_of Flush = codes "Flush"
+name_of GetError = codes "GetError"
 
 -- the number of a call; own
 unfoldable pub id_of : Call → ℕ
@@ -33,3 +41,11 @@ arguments GetError = []
 -- each argument of a call lies in the range of its kind; own
 unfoldable pub IsInRange : Call → Type 0
 IsInRange call = AreOfKinds (kinds_of call) (arguments call)
+
+-- whether a call is answered: whether it stands in the answering part of the table; own
+unfoldable pub is_answering : Call → Bool
+is_answering (Clear mask) = false
+is_answering (ClearColorx red green blue alpha) = false
+is_answering Finish = false
+is_answering Flush = false
+is_answering GetError = true

@@ -1,3 +1,7 @@
 pub mod Call
 pub mod CallOf
+pub mod GlError
 pub mod Kind
+pub mod Lookup
+pub mod Names
+pub mod Shape

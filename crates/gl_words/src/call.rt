@@ -1,7 +1,7 @@
 //! The calls, as values. What a call does is told by the driver, and not here.
 
 ghost use Rattle.std.specs.Prelude.{◌≡◌, ◌<◌, ◌≤◌, ℕ, pos, List, [], ◌∷◌, length, IfSome, slice_get, Some};
-ghost use Rattle.gl_words.specs.Call.{id_of, arguments, IsInRange};
+ghost use Rattle.gl_words.specs.Call.{name_of, id_of, arguments, IsInRange};
 ghost use Rattle.gl_words.specs.CallOf.{call_of, unsigned_of, signed_of, clear_of, clear_color_of, bare_of};
 
 /// A call with its arguments, spelled as in OpenGL ES 1.1.12 without the prefix `gl`.
@@ -37,6 +37,20 @@ pub fn call_id(call: &Call) -> u16
         Call::Finish => 27,
         Call::Flush => 28,
         Call::GetError => 33,
+    }
+}
+
+/// The name of a call, without the prefix `gl`.
+#[tactic(auto, unfolding(crate::specs::Call::name_of))]
+pub fn call_name(call: &Call) -> &'static str
+    ensures { result.now ≡ name_of call.now }
+{
+    match call {
+        Call::Clear { .. } => "Clear",
+        Call::ClearColorx { .. } => "ClearColorx",
+        Call::Finish => "Finish",
+        Call::Flush => "Flush",
+        Call::GetError => "GetError",
     }
 }
 

@@ -1,10 +1,16 @@
-//! The calls of OpenGL ES 1.1 that this profile has, with their numbers and arguments.
+//! The calls of OpenGL ES 1.1 that this profile has, with their numbers, arguments and names.
 #![tactic(auto)]
 
 mod call;
+mod error;
 mod laws;
+mod names;
 mod shape;
+#[cfg(test)]
+mod tests;
 
-pub use call::{Call, arg_at, arg_count, call_from, call_id, in_range};
+pub use call::{Call, arg_at, arg_count, call_from, call_id, call_name, in_range};
+pub use error::GlError;
 pub use laws::call_law;
-pub use shape::ArgKind;
+pub use names::number_of_enum;
+pub use shape::{ArgKind, Shape, shape_of_name};

@@ -1,4 +1,11 @@
-//! The kinds of arguments, each with its range. Which call has which is a column of the table in `call.rt`.
+//! The shapes of calls: number and kinds of arguments, by name. What a call is, is told in `call.rt`.
+
+ghost use Rattle.std.specs.Prelude.{◌≡◌, ℕ, IfSome, IsSomeAnd, Some};
+ghost use Rattle.std.specs.Option.{option_map};
+ghost use Rattle.gl_words.specs.Call.{name_of};
+ghost use Rattle.gl_words.specs.Lookup.{found_in};
+ghost use Rattle.gl_words.specs.Shape.{IsShapeOf, IsNamedShape, shape_named, seen_shape, seen_shapes};
+ghost use Rattle.gl_words.specs.declared.call.Call.{Call};
 
 /// The kind of an argument (OpenGL ES 1.1.12, section 2.3; the ranges are own).
 #[derive(Clone, Copy)]
@@ -15,4 +22,71 @@ pub enum ArgKind {
     Bool,
     /// An address in client memory, 0 to 2^32 - 1 bytes.
     Pointer,
+}
+
+/// A row of the table of calls: the number (own), and the kind of each argument in order.
+#[derive(Clone, Copy)]
+pub struct Shape {
+    pub id: u16,
+    pub kinds: &'static [ArgKind],
+}
+
+/// A row with its name, which is that of OpenGL ES 1.1.12 without the prefix `gl`.
+pub(crate) struct NamedShape {
+    name: &'static str,
+    shape: Shape,
+}
+
+static SHAPES: [NamedShape; 5] = [
+    NamedShape {
+        name: "Clear",
+        shape: Shape {
+            id: 8,
+            kinds: &[ArgKind::Unsigned],
+        },
+    },
+    NamedShape {
+        name: "ClearColorx",
+        shape: Shape {
+            id: 9,
+            kinds: &[
+                ArgKind::Fixed,
+                ArgKind::Fixed,
+                ArgKind::Fixed,
+                ArgKind::Fixed,
+            ],
+        },
+    },
+    NamedShape {
+        name: "Finish",
+        shape: Shape { id: 27, kinds: &[] },
+    },
+    NamedShape {
+        name: "Flush",
+        shape: Shape { id: 28, kinds: &[] },
+    },
+    NamedShape {
+        name: "GetError",
+        shape: Shape { id: 33, kinds: &[] },
+    },
+];
+
+/// The shape of the call with this name. None exactly where no call has it.
+pub fn shape_of_name(name: &str) -> Option<Shape>
+    ensures gives { option_map seen_shape result ≡ shape_named name.now }
+    ensures found { IfSome result (λ shape. IsNamedShape name.now shape) }
+    ensures only { (call : Call) → name_of call ≡ name.now → IsSomeAnd result (λ shape. IsShapeOf shape call) }
+{
+    shape_in(&SHAPES, name)
+}
+
+fn shape_in(table: &[NamedShape], name: &str) -> Option<Shape>
+    ensures { option_map seen_shape result ≡ found_in (seen_shapes table.now) name.now }
+{
+    for row in table {
+        if row.name == name {
+            return Some(row.shape);
+        }
+    }
+    None
 }
