@@ -1,0 +1,6 @@
+pub mod Spellings
+pub mod Writing
+pub mod Reading
+pub mod Parsing
+pub mod Packings
+pub mod Batching

@@ -1,0 +1,24 @@
+use Rattle.std.proofs.Common.{◌∙◌, arith}
+use Rattle.gl_front.proofs.Journals.{Told-along, Told-then}
+use Rattle.gl_front.proofs.Cuttings.{ended_at-behind, open_after-behind, length-ended_at}
+use Rattle.gl_front.proofs.steps.put_off.Goals as goal
+
+pub returns-clause-calls : goal.returns-clause-calls
+returns-clause-calls g c =
+    c.submit_if_sent-batch.ensures.calls
+    ∙ open_after-behind c.args.batch.size c.args.batch.calls c.args.call.now c.put_behind-batch.result.0.calls c.requires.class c.put_behind-batch.ensures.calls
+
+pub returns-clause-count : goal.returns-clause-count
+returns-clause-count g c =
+    omega (
+      arith,
+      c.put_behind-batch.ensures.count,
+      c.submit_if_sent-batch.ensures.count,
+      length-ended_at c.args.batch.size c.args.batch.calls c.args.call.now c.put_behind-batch.result.0.calls c.requires.class c.put_behind-batch.ensures.calls,
+    )
+
+pub returns-clause-journal : goal.returns-clause-journal
+returns-clause-journal g c =
+    Told-along _ _ _ _
+    (ended_at-behind c.args.batch.size c.args.batch.calls c.args.call.now c.put_behind-batch.result.0.calls c.requires.class c.put_behind-batch.ensures.calls)
+    (Told-then _ _ _ _ _ c.put_behind-batch.ensures.journal c.submit_if_sent-batch.ensures.journal)

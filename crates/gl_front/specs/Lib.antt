@@ -1,0 +1,10 @@
+pub mod Driver
+pub mod Rail
+pub mod Maker
+pub mod Front
+pub mod FrontState
+pub use Rattle.gl_words.specs.Call
+pub use Rattle.batch_pack.specs.Spelling
+pub use Rattle.batch_pack.specs.Batch
+pub use Rattle.batch_pack.specs.Class
+pub use Rattle.batch_pack.specs.Cutting

@@ -1,0 +1,230 @@
+//! The front: the part of the layer that a program calls. It has no driver, and reaches one through its rail.
+
+ghost use Rattle.std.specs.Prelude.{◌≡◌, ◌≢◌, ℕ, ◌+◌, ◌-◌, ◌^◌, ◌<◌, ◌⊎◌, List, [], ◌∷◌, length, true, false, IsErr, IfOk, IfErr, OnOk, OnErr};
+ghost use Rattle.gl_words.specs.declared.call.Call.{Call};
+ghost use Rattle.batch_pack.specs.declared.class.Class.TheVariants.{Answer, Sync, Defer};
+ghost use Rattle.batch_pack.specs.Batch.{IsBatchSize};
+ghost use Rattle.batch_pack.specs.Class.{class_of};
+ghost use Rattle.batch_pack.specs.Cutting.{batch_unless_empty, ended_at, open_after};
+ghost use Rattle.gl_front.specs.declared.driver.Reply.{Reply};
+ghost use Rattle.gl_front.specs.declared.driver.Reply.TheVariants.{Nothing};
+ghost use Rattle.gl_front.specs.Rail.{Told, StandsForNoMore};
+ghost use Rattle.gl_front.specs.Front.{Fronting, new_front, StandsFor, CarriesOut, counts_after, counts_flushed, StopsAtCall, AllRiseLittle, RisesLittle, AllHaveRoom, HasRoom};
+
+use crate::counts::Counts;
+use crate::driver::{Driver, Reply};
+use crate::rail::Rail;
+use crate::steps::{await_all, carry_out, put_off, submit_unless_empty};
+use batch_pack::{Batch, Class, call_class};
+use gl_words::{Call, in_range};
+use std::alloc::{AllocError, AllocError as NoMemory, Global};
+use std::marker::{Model, PhantomData};
+use std::thread::Threads;
+
+/// A front over a rail; own. Contracts see its rail, the calls of its open batch, whether an issue was
+/// refused, and its counts.
+#[derive(Drop)]
+pub struct Front<D: Driver, R: Rail<D>> {
+    rail: R,
+    batch: Option<Batch>,
+    refused: bool,
+    counts: Counts,
+    driver: PhantomData<D>,
+}
+
+impl<D: Driver, R: Rail<D>> Model for Front<D, R> {
+    ghost use Rattle.gl_front.specs.Front.{Fronting};
+    ghost use Rattle.gl_front.specs.FrontState.{open_calls, IsReady};
+
+    ghost Value = { Fronting R };
+
+    ghost view = { λ f. record {
+      rail = f.rail;
+      calls = open_calls f.batch;
+      refused = f.refused;
+      counts = f.counts;
+    } };
+
+    ghost invariant = { λ f. IsReady (R.home f.rail) (R.size f.rail) f.batch };
+}
+
+impl<D: Driver, R: Rail<D>> Front<D, R> {
+    /// A front over a rail, with an empty batch of the rail's size. Want of memory gives the rail back.
+    pub fn new(alloc: Global, rail: R) -> Result<Self, (R, NoMemory)>
+        requires home { R.home rail }
+        requires size { IsBatchSize (R.size rail) }
+        ensures ok { IfOk result (λ front. front ≡ new_front rail) }
+        ensures err { IfErr result (λ refusal. refusal.0 ≡ rail) }
+    {
+        match Batch::new(alloc, rail.slots()) {
+            Ok(batch) => Ok(Front {
+                rail,
+                batch: Some(batch),
+                refused: false,
+                counts: Counts {
+                    deferred: 0,
+                    synchronised: 0,
+                    answered: 0,
+                    batches: 0,
+                },
+                driver: PhantomData,
+            }),
+            Err(refusal) => Err((rail, refusal)),
+        }
+    }
+
+    /// Issues a call, and gives its reply. After a refusal every later issue is refused and does nothing.
+    pub fn issue<T: Threads + Sync>(&mut self, rt: &T, call: &Call) -> Result<Reply, NoMemory>
+        requires counts { AllHaveRoom self.old.counts }
+        requires sent { HasRoom (R.sent self.old.rail) }
+        // the reply is the driver's, and no other state is stood for
+        ensures ok { IfOk result (λ reply. CarriesOut R.stands D.steps self.old self.new call.now reply) }
+        ensures open_batch { OnOk result
+            (self.new.calls ≡ open_after (R.size self.old.rail) self.old.calls call.now) }
+        ensures counts { OnOk result (self.new.counts ≡ counts_after self.old.counts (class_of call.now)
+            (length (ended_at (R.size self.old.rail) self.old.calls call.now))) }
+        ensures journal { OnOk result (Told (R.journal self.old.rail) (R.journal self.new.rail)
+            (ended_at (R.size self.old.rail) self.old.calls call.now)) }
+        // a refusal adds no state and is never forgotten; only a call that waits meets the first
+        ensures err { OnErr result
+            (StandsForNoMore (StandsFor R.stands D.steps self.old) (StandsFor R.stands D.steps self.new)) }
+        ensures stopped { self.old.refused ≡ false → OnErr result
+            (StopsAtCall (R.journal self.old.rail) (R.journal self.new.rail) self.old self.new) }
+        ensures marked { OnErr result (self.new.refused ≡ true) }
+        ensures unmarked { OnOk result (self.new.refused ≡ false) }
+        ensures refused { self.old.refused ≡ true → IsErr result }
+        ensures idle { self.old.refused ≡ true → self.new ≡ self.old }
+        ensures deferred { class_of call.now ≢ Sync → IsErr result → self.old.refused ≡ true }
+        ensures size { R.size self.new.rail ≡ R.size self.old.rail }
+        ensures sent { RisesLittle (R.sent self.old.rail) (R.sent self.new.rail) }
+        ensures rises { AllRiseLittle self.old.counts self.new.counts }
+    {
+        if self.refused {
+            return Err(AllocError);
+        }
+        match call_class(call) {
+            Class::Defer => {
+                self.defer(rt, call);
+                Ok(Reply::Nothing)
+            }
+            Class::Answer => unreachable!(),
+            Class::Sync => self.synchronise(rt, call),
+        }
+    }
+
+    /// Puts a call that doesn't wait into a batch.
+    pub fn defer<T: Threads + Sync>(&mut self, rt: &T, call: &Call)
+        requires class { class_of call.now ≡ Defer }
+        requires counts { AllHaveRoom self.old.counts }
+        requires sent { HasRoom (R.sent self.old.rail) }
+        ensures carries { CarriesOut R.stands D.steps self.old self.new call.now Nothing }
+        ensures open_batch { self.new.calls ≡ open_after (R.size self.old.rail) self.old.calls call.now }
+        ensures counts { self.new.counts ≡ counts_after self.old.counts Defer
+            (length (ended_at (R.size self.old.rail) self.old.calls call.now)) }
+        ensures journal { Told (R.journal self.old.rail) (R.journal self.new.rail)
+            (ended_at (R.size self.old.rail) self.old.calls call.now) }
+        ensures mark { self.new.refused ≡ self.old.refused }
+        ensures size { R.size self.new.rail ≡ R.size self.old.rail }
+        ensures sent { RisesLittle (R.sent self.old.rail) (R.sent self.new.rail) }
+        ensures rises { AllRiseLittle self.old.counts self.new.counts }
+    {
+        in_range(call);
+        let Some(batch) = self.batch.take() else {
+            return;
+        };
+        let (batch, sent) = put_off(rt, &mut self.rail, batch, call);
+        self.batch = Some(batch);
+        self.counts.deferred += 1;
+        self.counts.batches += sent;
+    }
+
+    fn synchronise<T: Threads + Sync>(&mut self, rt: &T, call: &Call) -> Result<Reply, NoMemory>
+        requires class { class_of call.now ≡ Sync }
+        requires counts { AllHaveRoom self.old.counts }
+        requires sent { HasRoom (R.sent self.old.rail) }
+        ensures ok { IfOk result (λ reply. CarriesOut R.stands D.steps self.old self.new call.now reply) }
+        ensures open_batch { self.new.calls ≡ [] }
+        ensures counts { OnOk result (self.new.counts ≡ counts_after self.old.counts Sync
+            (length (batch_unless_empty self.old.calls))) }
+        ensures stopped { OnErr result (self.new.counts ≡ counts_flushed self.old.counts
+            (length (batch_unless_empty self.old.calls))) }
+        ensures journal { Told (R.journal self.old.rail) (R.journal self.new.rail)
+            (batch_unless_empty self.old.calls) }
+        ensures err { OnErr result
+            (StandsForNoMore (StandsFor R.stands D.steps self.old) (StandsFor R.stands D.steps self.new)) }
+        ensures marked { OnErr result (self.new.refused ≡ true) }
+        ensures unmarked { OnOk result (self.new.refused ≡ self.old.refused) }
+        ensures size { R.size self.new.rail ≡ R.size self.old.rail }
+        ensures sent { RisesLittle (R.sent self.old.rail) (R.sent self.new.rail) }
+        ensures rises { AllRiseLittle self.old.counts self.new.counts }
+    {
+        self.flush(rt);
+        let reply = carry_out(rt, &mut self.rail, call);
+        match &reply {
+            Ok(_) => self.counts.synchronised += 1,
+            Err(_) => self.refused = true,
+        }
+        reply
+    }
+
+    /// Submits the open batch, unless it is empty.
+    pub fn flush<T: Threads + Sync>(&mut self, rt: &T)
+        requires counts { AllHaveRoom self.old.counts }
+        requires sent { HasRoom (R.sent self.old.rail) }
+        ensures stands { StandsForNoMore (StandsFor R.stands D.steps self.old) (StandsFor R.stands D.steps self.new) }
+        ensures open_batch { self.new.calls ≡ [] }
+        ensures counts { self.new.counts
+            ≡ counts_flushed self.old.counts (length (batch_unless_empty self.old.calls)) }
+        ensures journal { Told (R.journal self.old.rail) (R.journal self.new.rail)
+            (batch_unless_empty self.old.calls) }
+        ensures mark { self.new.refused ≡ self.old.refused }
+        ensures failed { R.failed self.new.rail → R.failed self.old.rail ⊎ (self.old.calls ≢ []) }
+        ensures size { R.size self.new.rail ≡ R.size self.old.rail }
+        ensures sent { RisesLittle (R.sent self.old.rail) (R.sent self.new.rail) }
+    {
+        let Some(batch) = self.batch.take() else {
+            return;
+        };
+        let (batch, sent) = submit_unless_empty(rt, &mut self.rail, batch);
+        self.batch = Some(batch);
+        self.counts.batches += sent;
+    }
+
+    /// Submits the open batch and waits until all are carried out. Refused only where one failed.
+    pub fn finish<T: Threads + Sync>(&mut self, rt: &T) -> Result<(), NoMemory>
+        requires counts { AllHaveRoom self.old.counts }
+        requires sent { HasRoom (R.sent self.old.rail) }
+        ensures stands { StandsForNoMore (StandsFor R.stands D.steps self.old) (StandsFor R.stands D.steps self.new) }
+        ensures sound { OnOk result (¬ R.failed self.new.rail) }
+        ensures err { OnErr result
+            (R.failed self.new.rail × (R.failed self.old.rail ⊎ (self.old.calls ≢ []))) }
+        ensures open_batch { self.new.calls ≡ [] }
+        ensures counts { self.new.counts
+            ≡ counts_flushed self.old.counts (length (batch_unless_empty self.old.calls)) }
+        ensures journal { Told (R.journal self.old.rail) (R.journal self.new.rail)
+            (batch_unless_empty self.old.calls) }
+        ensures mark { self.new.refused ≡ self.old.refused }
+        ensures size { R.size self.new.rail ≡ R.size self.old.rail }
+        ensures sent { RisesLittle (R.sent self.old.rail) (R.sent self.new.rail) }
+    {
+        self.flush(rt);
+        await_all(&mut self.rail)
+    }
+
+    /// How many calls and batches there were.
+    pub fn counts(&self) -> Counts
+        ensures { result ≡ self.now.counts }
+    {
+        self.counts
+    }
+
+    /// The rail, whose driver isn't taken.
+    pub fn into_parts(self) -> R
+        requires open_batch { self.calls ≡ [] }
+        ensures rail { result ≡ self.rail }
+        ensures home { R.home result }
+    {
+        let Front { rail, .. } = self;
+        rail
+    }
+}

@@ -1,0 +1,177 @@
+//! The steps of a front, over a rail and an open batch: putting a call behind the others, submitting,
+//! carrying one out at once. No front stands here.
+
+ghost use Rattle.std.specs.Prelude.{◌≡◌, ◌≢◌, ◌+◌, ◌-◌, ◌^◌, ◌<◌, ◌≤◌, ◌⊎◌, if◌then◌else◌, [], ◌∷◌, ◌++◌, length, IfOk, OnOk, OnErr};
+ghost use Rattle.batch_pack.specs.declared.class.Class.TheVariants.{Defer};
+ghost use Rattle.batch_pack.specs.Batch.{IsBatchSize, empty_batch};
+ghost use Rattle.batch_pack.specs.Class.{class_of, is_flush};
+ghost use Rattle.batch_pack.specs.Cutting.{batch_unless_empty, joined, cut_before, ended_at, open_after};
+ghost use Rattle.gl_front.specs.Driver.{RunsFrom};
+ghost use Rattle.gl_front.specs.Rail.{Told, StandsForNoMore};
+
+use crate::driver::{Driver, Reply};
+use crate::rail::Rail;
+use batch_pack::{Batch, sends_batch};
+use gl_words::Call;
+use std::alloc::AllocError as NoMemory;
+use std::thread::Threads;
+
+/// Submits a batch unless it is empty. Gives an empty one, and how many were submitted: 0 or 1.
+pub fn submit_unless_empty<T: Threads + Sync, D: Driver, R: Rail<D>>(
+    rt: &T,
+    rail: &mut R,
+    batch: Batch,
+) -> (Batch, u64)
+    requires home { R.home rail.old }
+    requires size { batch.size ≡ R.size rail.old }
+    requires room { R.sent rail.old < 2 ^ 62 }
+    ensures empty { result.0 ≡ empty_batch batch.size }
+    ensures count { result.1 ≡ length (batch_unless_empty batch.calls) }
+    ensures few { result.1 ≤ 1 }
+    ensures stands { (st2 : D) → R.stands rail.new st2
+        → RunsFrom (R.stands rail.old) D.steps batch.calls st2 }
+    ensures failed { R.failed rail.new → R.failed rail.old ⊎ (batch.calls ≢ []) }
+    ensures home { R.home rail.new }
+    ensures size { R.size rail.new ≡ R.size rail.old }
+    ensures sent { R.sent rail.new ≡ R.sent rail.old + result.1 }
+    ensures journal { Told (R.journal rail.old) (R.journal rail.new) (batch_unless_empty batch.calls) }
+{
+    if batch.used() == 0 {
+        return (batch, 0);
+    }
+    (rail.submit(rt, batch), 1)
+}
+
+/// Puts a call behind those of the batch, which is submitted first where the call doesn't fit.
+/// Gives the batch with the call, and how many were submitted: 0 or 1.
+fn put_behind<T: Threads + Sync, D: Driver, R: Rail<D>>(
+    rt: &T,
+    rail: &mut R,
+    batch: Batch,
+    call: &Call,
+) -> (Batch, u64)
+    requires home { R.home rail.old }
+    requires bounds { IsBatchSize batch.size }
+    requires size { batch.size ≡ R.size rail.old }
+    requires room { R.sent rail.old < 2 ^ 62 }
+    ensures size { result.0.size ≡ batch.size }
+    ensures calls { result.0.calls ≡ joined batch.size batch.calls call.now ++ call.now ∷ [] }
+    ensures count { result.1 ≡ length (cut_before batch.size batch.calls call.now) }
+    ensures few { result.1 ≤ 1 }
+    ensures stands { (st2 : D) → RunsFrom (R.stands rail.new) D.steps result.0.calls st2
+        → RunsFrom (R.stands rail.old) D.steps (batch.calls ++ call.now ∷ []) st2 }
+    ensures failed { R.failed rail.new → R.failed rail.old ⊎ (batch.calls ≢ []) }
+    ensures home { R.home rail.new }
+    ensures rail_size { R.size rail.new ≡ R.size rail.old }
+    ensures sent { R.sent rail.new ≡ R.sent rail.old + result.1 }
+    ensures journal { Told (R.journal rail.old) (R.journal rail.new)
+        (cut_before batch.size batch.calls call.now) }
+{
+    let mut batch = batch;
+    match batch.try_pack(call) {
+        Ok(()) => (batch, 0),
+        Err(_) => {
+            let (mut batch, count) = submit_unless_empty(rt, rail, batch);
+            let _packed = batch.try_pack(call);
+            (batch, count)
+        }
+    }
+}
+
+/// Submits a batch where its last call has it sent on its way. Gives the open batch behind it, and
+/// how many were submitted: 0 or 1.
+fn submit_if_sent<T: Threads + Sync, D: Driver, R: Rail<D>>(
+    rt: &T,
+    rail: &mut R,
+    batch: Batch,
+    last: &Call,
+) -> (Batch, u64)
+    requires home { R.home rail.old }
+    requires size { batch.size ≡ R.size rail.old }
+    requires room { R.sent rail.old < 2 ^ 62 }
+    ensures size { result.0.size ≡ batch.size }
+    ensures calls { result.0.calls ≡ (if is_flush last.now then [] else batch.calls) }
+    ensures count { result.1
+        ≡ length (if is_flush last.now then batch_unless_empty batch.calls else []) }
+    ensures few { result.1 ≤ 1 }
+    ensures stands { (st2 : D) → RunsFrom (R.stands rail.new) D.steps result.0.calls st2
+        → RunsFrom (R.stands rail.old) D.steps batch.calls st2 }
+    ensures home { R.home rail.new }
+    ensures rail_size { R.size rail.new ≡ R.size rail.old }
+    ensures sent { R.sent rail.new ≡ R.sent rail.old + result.1 }
+    ensures journal { Told (R.journal rail.old) (R.journal rail.new)
+        (if is_flush last.now then batch_unless_empty batch.calls else []) }
+{
+    if sends_batch(last) {
+        return submit_unless_empty(rt, rail, batch);
+    }
+    (batch, 0)
+}
+
+/// Puts a deferred call behind those of the open batch, with the batches that end at it submitted.
+/// Gives the open batch behind the call, and how many were submitted: 0 to 2.
+pub fn put_off<T: Threads + Sync, D: Driver, R: Rail<D>>(
+    rt: &T,
+    rail: &mut R,
+    batch: Batch,
+    call: &Call,
+) -> (Batch, u64)
+    requires class { class_of call.now ≡ Defer }
+    requires home { R.home rail.old }
+    requires bounds { IsBatchSize batch.size }
+    requires size { batch.size ≡ R.size rail.old }
+    requires room { R.sent rail.old < 2 ^ 62 - 1 }
+    ensures size { result.0.size ≡ batch.size }
+    ensures calls { result.0.calls ≡ open_after batch.size batch.calls call.now }
+    ensures count { result.1 ≡ length (ended_at batch.size batch.calls call.now) }
+    ensures few { result.1 ≤ 2 }
+    ensures stands { (st2 : D) → RunsFrom (R.stands rail.new) D.steps result.0.calls st2
+        → RunsFrom (R.stands rail.old) D.steps (batch.calls ++ call.now ∷ []) st2 }
+    ensures home { R.home rail.new }
+    ensures rail_size { R.size rail.new ≡ R.size rail.old }
+    ensures sent { R.sent rail.new ≡ R.sent rail.old + result.1 }
+    ensures journal { Told (R.journal rail.old) (R.journal rail.new)
+        (ended_at batch.size batch.calls call.now) }
+{
+    let (batch, before) = put_behind(rt, rail, batch, call);
+    let (batch, behind) = submit_if_sent(rt, rail, batch, call);
+    (batch, before + behind)
+}
+
+/// Carries a call out at once, all submitted batches being carried out before it.
+pub fn carry_out<T: Threads + Sync, D: Driver, R: Rail<D>>(
+    rt: &T,
+    rail: &mut R,
+    call: &Call,
+) -> Result<Reply, NoMemory>
+    requires home { R.home rail.old }
+    ensures ok { IfOk result (λ reply. (st2 : D) → R.stands rail.new st2
+        → (st : D) × R.stands rail.old st × D.steps st call.now st2 reply) }
+    ensures sound { OnOk result (¬ R.failed rail.new) }
+    ensures err { OnErr result (StandsForNoMore (R.stands rail.old) (R.stands rail.new)) }
+    ensures home { R.home rail.new }
+    ensures size { R.size rail.new ≡ R.size rail.old }
+    ensures sent { R.sent rail.new ≡ R.sent rail.old }
+    ensures journal { Told (R.journal rail.old) (R.journal rail.new) [] }
+{
+    let mut driver = rail.take()?;
+    let reply = driver.call(rt, call);
+    rail.put(driver);
+    reply
+}
+
+/// Waits until all submitted batches are carried out. Refused only where one of them failed.
+pub fn await_all<D: Driver, R: Rail<D>>(rail: &mut R) -> Result<(), NoMemory>
+    requires home { R.home rail.old }
+    ensures stands { StandsForNoMore (R.stands rail.old) (R.stands rail.new) }
+    ensures sound { OnOk result (¬ R.failed rail.new) }
+    ensures err { OnErr result (R.failed rail.old × R.failed rail.new) }
+    ensures home { R.home rail.new }
+    ensures size { R.size rail.new ≡ R.size rail.old }
+    ensures sent { R.sent rail.new ≡ R.sent rail.old }
+    ensures journal { Told (R.journal rail.old) (R.journal rail.new) [] }
+{
+    let driver = rail.take()?;
+    rail.put(driver);
+    Ok(())
+}

@@ -1,0 +1,4 @@
+pub mod Faults
+pub mod Moved
+pub mod Memory
+pub mod File

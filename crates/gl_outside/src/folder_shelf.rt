@@ -1,0 +1,63 @@
+// A real folder. What comes to lie there no clause says: this file is trusted, with its one test.
+ghost use Rattle.std.specs.Prelude.{◌≡◌};
+
+use crate::{OutError, Shelf};
+use std::alloc::Global;
+use std::fs;
+use std::marker::Model;
+use std::rt::Files;
+
+/// A folder that is there, seen as its count of faults. A put of a name that is there replaces the
+/// file. It tells nothing of what lies in it, and a put that fails may leave a part of the file.
+#[derive(Drop)]
+pub struct FolderShelf<R: Files + Drop> {
+    rt: R,
+    alloc: Global,
+    folder: String,
+    faults: u64,
+}
+
+impl<R: Files + Drop> Model for FolderShelf<R> {
+    ghost use Rattle.std.specs.Prelude.{ℕ, ◌<◌, ◌^◌};
+
+    ghost Value = { ℕ };
+
+    ghost view = { λ s. s.faults };
+
+    ghost invariant = { λ s. s.faults < 2 ^ 64 };
+}
+
+impl<R: Files + Drop> FolderShelf<R> {
+    /// The folder at this path. No put failed yet.
+    pub fn new(rt: R, alloc: Global, folder: String) -> Self
+        ensures { result ≡ 0 }
+    {
+        FolderShelf {
+            rt,
+            alloc,
+            folder,
+            faults: 0,
+        }
+    }
+}
+
+#[tactic(auto, unfolding(crate::specs::Moved::Adds))]
+impl<R: Files + Drop> Shelf for FolderShelf<R> {
+    ghost use Rattle.std.specs.Prelude.{None};
+
+    ghost list = { λ _. None };
+
+    ghost faults = { λ s. s };
+
+    fn put(&mut self, name: &str, bytes: &[u8]) -> Result<(), OutError> {
+        let folder = self.folder.as_str();
+        let path = format!(in self.alloc; "{folder}/{name}")?;
+        match fs::write(&self.rt, path, bytes) {
+            Ok(()) => Ok(()),
+            Err(_) => {
+                self.faults = self.faults.saturating_add(1);
+                Err(OutError::Failed)
+            }
+        }
+    }
+}

@@ -1,0 +1,64 @@
+//! glreplay: replays a script of OpenGL ES calls. It makes the real objects, and all else is in the top call.
+#![tactic(auto)]
+
+use gl_front::InlineMaker;
+use gl_outside::{FolderShelf, StdinSource, StdoutSink};
+use replay_core::{Status, exit_code, replay_alone};
+use std::process::ExitCode;
+use std::rt::Env;
+use std::{env, io};
+
+const HELP: &str = "glreplay replays a script of OpenGL ES 1.1 calls from standard input.
+
+    glreplay run --rail inline < SCRIPT
+    glreplay --help
+    glreplay --version
+
+The report goes to standard output, the images into the current folder.
+";
+
+const VERSION: &str = "glreplay 0.1.0\n";
+
+/// The words of the command line, without the program's name.
+fn words_of<R: Env + AllocGlobal>(rt: &R) -> io::Result<Vec<String>> {
+    let mut words = Vec::new(rt.alloc());
+    for word in env::args(rt)?.skip(1) {
+        words.push(word)?;
+    }
+    Ok(words)
+}
+
+/// The text that the one word asks for, which is printed before anything else is done.
+fn asked_text(words: &[String]) -> Option<&'static str> {
+    match words {
+        [word] if word.as_str() == "--help" => Some(HELP),
+        [word] if word.as_str() == "--version" => Some(VERSION),
+        _ => None,
+    }
+}
+
+fn main(rt: HostRuntime) -> io::Result<ExitCode> {
+    let words = words_of(&rt)?;
+    if let Some(text) = asked_text(&words) {
+        print!(rt; "{text}")?;
+        return Ok(ExitCode::from(0));
+    }
+    let mut source = StdinSource::new(&rt);
+    let mut sink = StdoutSink::new(rt);
+    let folder = String::from_str(rt.alloc(), ".")?;
+    let mut shelf = FolderShelf::new(rt, rt.alloc(), folder);
+    let mut rails = InlineMaker::new();
+    let status = replay_alone(
+        &rt,
+        rt.alloc(),
+        &words,
+        &mut source,
+        &mut sink,
+        &mut shelf,
+        &mut rails,
+    );
+    if status != Status::Ok {
+        eprintln!(rt; "{status}")?;
+    }
+    Ok(ExitCode::from(exit_code(&status)))
+}

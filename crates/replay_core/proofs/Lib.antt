@@ -1,0 +1,15 @@
+pub mod Bodies
+pub mod Calls
+pub mod CountLemmas
+pub mod Delivery
+pub mod DirectLemmas
+pub mod Heads
+pub mod Images
+pub mod LineLemmas
+pub mod Outcomes
+pub mod Pieces
+pub mod Reports
+pub mod RunLemmas
+pub mod Sizes
+pub mod Tallies
+pub mod WordList

@@ -1,0 +1,39 @@
+use Rattle.std.proofs.Common.{◌+◌, ◌++◌, drop, ap, sym, ◌∙◌, arith}
+use Rattle.std.proofs.lemmas.List.{append-nil}
+use Rattle.gl_words.specs.declared.call.Call.TheVariants.{Clear}
+use Rattle.replay_core.specs.declared.script.Line.{Line}
+use Rattle.replay_core.specs.Own.{first_own}
+use Rattle.replay_core.specs.Direct.{answers_of, own_after_lines, final_own, script_answers}
+use Rattle.replay_core.proofs.DirectLemmas.{told-step, answers_of-end, own_after_lines-drop, own_after_lines-end}
+use Rattle.replay_core.proofs.plain.direct.Goals as goal
+
+pub loop-line-preserved : goal.loop-line-preserved
+loop-line-preserved c =
+    let lines = c.as_slice-lines.result.now in
+    let at = c.loop-line.line-index in
+    let line : Line = record { number = 0; call = Clear 0 } in (
+      told-step c.loop-line.answers.items c.tell.new.answers.items c.loop-line.soft c.carry_out-reply.new.self c.carry_out-reply.result lines at line (omega arith) c.in_ok-tell.ensures c.carry_out-reply.ensures.after c.carry_out-reply.ensures.reply
+          ∙ c.loop-line.invariant.0,
+      ap (λ own. own_after_lines own (drop (at + 1) lines)) c.carry_out-reply.ensures.after
+          ∙ sym (own_after_lines-drop c.loop-line.soft lines at line (omega arith))
+          ∙ c.loop-line.invariant.1,
+    )
+
+pub returns-clause-answers : goal.returns-clause-answers
+unfolding script_answers
+returns-clause-answers c =
+    let lines = c.as_slice-lines.result.now in
+    sym (append-nil c.loop-line.answers.items)
+    ∙ ap (λ more. c.loop-line.answers.items ++ more) (sym (answers_of-end c.loop-line.soft lines c.loop-line.line-index (omega arith)))
+    ∙ c.loop-line.invariant.0
+    ∙ ap (λ own. answers_of own lines) c.in_ok-soft.ensures
+    ∙ ap (λ items. answers_of (first_own c.args.script.now.width c.args.script.now.height) items) c.as_slice-lines.ensures.value
+
+pub returns-clause-soft : goal.returns-clause-soft
+unfolding final_own
+returns-clause-soft c =
+    let lines = c.as_slice-lines.result.now in
+    sym (own_after_lines-end c.loop-line.soft lines c.loop-line.line-index (omega arith))
+    ∙ c.loop-line.invariant.1
+    ∙ ap (λ own. own_after_lines own lines) c.in_ok-soft.ensures
+    ∙ ap (λ items. own_after_lines (first_own c.args.script.now.width c.args.script.now.height) items) c.as_slice-lines.ensures.value

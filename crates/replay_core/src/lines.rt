@@ -1,0 +1,62 @@
+//! Running the lines of a script through a front. No driver is named here: there is none but the one behind the rail.
+
+ghost use Rattle.std.specs.Prelude.{◌≡◌, ℕ, ◌+◌, ◌*◌, ◌^◌, ◌<◌, ◌≤◌, length, vec_len, OnOk, OnErr, List, ◌++◌};
+ghost use Rattle.gl_front.specs.Front.{StandsFor};
+ghost use Rattle.replay_core.specs.Direct.{told_of};
+ghost use Rattle.replay_core.specs.Script.{calls_of};
+ghost use Rattle.replay_core.specs.Lines.{RunsLines, CountsCalls, TellsCalls, AllLow, AllRiseBy};
+
+use crate::script::Line;
+use gl_front::{Driver, Front, Rail, Reply};
+use gl_words::Call;
+use std::alloc::AllocError as NoMemory;
+use std::thread::Threads;
+
+/// What a line's call answered, as the report prints it; own.
+#[derive(Clone, Copy, Debug, PartialEq, Eq)]
+pub struct Answer {
+    /// The number of the script's line, counted from 1.
+    pub line: u32,
+    pub call: Call,
+    pub number: i64,
+}
+
+/// Runs the lines in order, and adds their answers.
+pub fn run_lines<T: Threads + Sync, D: Driver, R: Rail<D>>(
+    rt: &T,
+    front: &mut Front<D, R>,
+    lines: &[Line],
+    answers: &mut Vec<Answer>,
+) -> Result<(), NoMemory>
+    requires few { length lines.now ≤ 262144 }
+    requires counts { AllLow front.old.counts }
+    requires sent { R.sent front.old.rail < 2 ^ 61 }
+    ensures ok { OnOk result (RunsLines (StandsFor R.stands D.steps front.old) D.steps lines.now (StandsFor R.stands D.steps front.new) answers.old.items answers.new.items) }
+    ensures counts { OnOk result (CountsCalls (R.size front.old.rail) front.old.calls front.new.calls (calls_of lines.now) front.old.counts front.new.counts) }
+    ensures journal { OnOk result (TellsCalls (R.size front.old.rail) front.old.calls front.new.calls (calls_of lines.now) (R.journal front.old.rail) (R.journal front.new.rail)) }
+    ensures kept { (more : List Answer) × (answers.new.items ≡ answers.old.items ++ more) }
+    ensures rises { AllRiseBy front.old.counts front.new.counts (2 * length lines.now) }
+    ensures sent { (R.sent front.old.rail ≤ R.sent front.new.rail) × (R.sent front.new.rail ≤ R.sent front.old.rail + 2 * length lines.now) }
+    ensures size { R.size front.new.rail ≡ R.size front.old.rail }
+{
+    for line in lines {
+        let reply = front.issue(rt, &line.call)?;
+        note(answers, line, &reply)?;
+    }
+    Ok(())
+}
+
+/// Adds what the report tells of a reply.
+fn note(answers: &mut Vec<Answer>, line: &Line, reply: &Reply) -> Result<(), NoMemory>
+    ensures ok { OnOk result (answers.new.items ≡ answers.old.items ++ told_of line.now reply.now) }
+    ensures err { OnErr result (answers.new.items ≡ answers.old.items) }
+{
+    if let Reply::One(number) = reply {
+        answers.push(Answer {
+            line: line.number,
+            call: line.call,
+            number: *number,
+        })?;
+    }
+    Ok(())
+}

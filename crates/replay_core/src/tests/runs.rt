@@ -1,0 +1,298 @@
+//! Whole runs of the top call over objects in memory.
+
+use crate::{ScriptError, ScriptFault, Status, rail_of, replay_alone};
+use gl_front::{InlineMaker, RailKind};
+use gl_outside::{MemoryShelf, MemorySink, MemorySource};
+use std::alloc::{AllocError, Global};
+use std::test::Fail;
+use std::thread::Threads;
+
+const WORDS: [&str; 3] = ["run", "--rail", "inline"];
+
+const RED: &str =
+    "glscript 1\ncontext 0 4 4 0\n0 ClearColorx 65536 0 0 65536\n0 Clear COLOR_BUFFER_BIT\nend\n";
+
+const RED_REPORT: &str = "glreport 1\ncounts 0 2 0 0 1\nimages 1\nend\n";
+
+const RED_IMAGE: &[u8] =
+    b"P6\n4 4\n255\n\xff\0\0\xff\0\0\xff\0\0\xff\0\0\xff\0\0\xff\0\0\xff\0\0\xff\0\0\xff\0\0\xff\0\0\xff\0\0\xff\0\0\xff\0\0\xff\0\0\xff\0\0\xff\0\0";
+
+const NOT_BUILT: Status = Status::BadScript(ScriptError {
+    line: 0,
+    fault: ScriptFault::NotBuilt,
+});
+
+/// Which calls of the source, the shelf and the sink fail, and how many bytes a call moves.
+#[derive(Drop)]
+struct Outside {
+    source: Vec<u64>,
+    shelf: Vec<u64>,
+    sink: Vec<u64>,
+    most: usize,
+}
+
+impl Outside {
+    fn sure(alloc: Global, most: usize) -> Outside {
+        Outside {
+            source: Vec::new(alloc),
+            shelf: Vec::new(alloc),
+            sink: Vec::new(alloc),
+            most,
+        }
+    }
+}
+
+/// What a run left.
+#[derive(Drop)]
+struct Left {
+    status: Status,
+    sink: MemorySink,
+    shelf: MemoryShelf,
+}
+
+fn replay<T: Threads + Sync>(
+    rt: &T,
+    alloc: Global,
+    words: &[&str],
+    text: &[u8],
+    outside: Outside,
+) -> Result<Left, AllocError> {
+    let mut all = Vec::new(alloc);
+    for word in words {
+        all.push(String::from_str(alloc, word)?)?;
+    }
+    let most = outside.most.max(1);
+    let mut source = MemorySource::new(Vec::from_slice(alloc, text)?, outside.source, most);
+    let mut sink = MemorySink::new(alloc, outside.sink, most);
+    let mut shelf = MemoryShelf::new(alloc, outside.shelf);
+    let mut rails = InlineMaker::new();
+    let status = replay_alone(
+        rt,
+        alloc,
+        &all,
+        &mut source,
+        &mut sink,
+        &mut shelf,
+        &mut rails,
+    );
+    Ok(Left {
+        status,
+        sink,
+        shelf,
+    })
+}
+
+// The bytes were worked by hand, and a plain program by other hands gives the same.
+#[test]
+fn the_smallest_run_is_byte_for_byte(rt: HostRuntime) -> Result<(), Fail> {
+    let left = replay(
+        &rt,
+        rt.alloc(),
+        &WORDS,
+        RED.as_bytes(),
+        Outside::sure(rt.alloc(), 4096),
+    )?;
+    assert_eq!(rt; left.status, Status::Ok);
+    assert_eq!(rt; left.sink.bytes(), RED_REPORT.as_bytes());
+    assert_eq!(rt; left.sink.bytes().len(), 41);
+    assert_eq!(rt; left.shelf.len(), 1);
+    assert_eq!(rt; left.shelf.name_at(0), "frame-0.ppm");
+    assert_eq!(rt; left.shelf.bytes_at(0), RED_IMAGE);
+    assert_eq!(rt; left.shelf.bytes_at(0).len(), 59);
+    Ok(())
+}
+
+// The reports were worked by hand, and a plain program by other hands gives the same.
+#[test]
+fn runs_report_answers_and_counts(rt: HostRuntime) -> Result<(), Fail> {
+    let rows = [
+        (
+            "glscript 1\ncontext 0 1 1 0\nend\n",
+            "glreport 1\ncounts 0 0 0 0 0\nimages 1\nend\n",
+        ),
+        (
+            "glscript 1\ncontext 0 1 1 0\n0 Clear 1\n0 GetError\n0 GetError\nend\n",
+            "glreport 1\n4 0 GetError 1281\n5 0 GetError 0\ncounts 0 1 2 0 1\nimages 1\nend\n",
+        ),
+    ];
+    for (text, report) in &rows {
+        let left = replay(
+            &rt,
+            rt.alloc(),
+            &WORDS,
+            text.as_bytes(),
+            Outside::sure(rt.alloc(), 4096),
+        )?;
+        assert_eq!(rt; left.status, Status::Ok);
+        assert_eq!(rt; left.sink.bytes(), report.as_bytes());
+        assert_eq!(rt; left.shelf.len(), 1);
+        assert_eq!(rt; left.shelf.bytes_at(0), b"P6\n1 1\n255\n\0\0\0".as_slice());
+    }
+    Ok(())
+}
+
+#[test]
+fn bytes_may_move_one_or_seven_at_a_time(rt: HostRuntime) -> Result<(), Fail> {
+    for most in [1, 7] {
+        let left = replay(
+            &rt,
+            rt.alloc(),
+            &WORDS,
+            RED.as_bytes(),
+            Outside::sure(rt.alloc(), most),
+        )?;
+        assert_eq!(rt; left.status, Status::Ok);
+        assert_eq!(rt; left.sink.bytes(), RED_REPORT.as_bytes());
+        assert_eq!(rt; left.shelf.len(), 1);
+        assert_eq!(rt; left.shelf.bytes_at(0), RED_IMAGE);
+    }
+    Ok(())
+}
+
+// Each row leaves the form in one way; the last is the first with one byte more than a script may have.
+#[test]
+fn what_leaves_the_form_is_refused_and_nothing_put(rt: HostRuntime) -> Result<(), Fail> {
+    let rows = [
+        "",
+        "glscript 1\ncontext 0 4 4 0\nend",
+        "glscript 1\n",
+        "glscript 2\ncontext 0 4 4 0\nend\n",
+        "glscript  1\ncontext 0 4 4 0\nend\n",
+        "glscript 1\r\ncontext 0 4 4 0\nend\n",
+        "# a comment\nglscript 1\ncontext 0 4 4 0\nend\n",
+        "glscript 1\ncontext 1 4 4 0\nend\n",
+        "glscript 1\ncontext 00 4 4 0\nend\n",
+        "glscript 1\ncontext 0 0 4 0\nend\n",
+        "glscript 1\ncontext 0 4 257 0\nend\n",
+        "glscript 1\ncontext 0 4 4 1\nend\n",
+        "glscript 1\ncontext 0 4 4\nend\n",
+        "glscript 1\ncontext 0 4 4 0\ncontext 1 4 4 0\nend\n",
+        "glscript 1\ncontext 0 4 4 0\n",
+        "glscript 1\ncontext 0 4 4 0\nend\nend\n",
+        "glscript 1\ncontext 0 4 4 0\nend\n0 Flush\n",
+        "glscript 1\ncontext 0 4 4 0\n\nend\n",
+        "glscript 1\ncontext 0 4 4 0\n1 Flush\nend\n",
+        "glscript 1\ncontext 0 4 4 0\n0 flush\nend\n",
+        "glscript 1\ncontext 0 4 4 0\n0 LoadIdentity\nend\n",
+        "glscript 1\ncontext 0 4 4 0\n0\nend\n",
+        "glscript 1\ncontext 0 4 4 0\n0 Flush \nend\n",
+        "glscript 1\ncontext 0 4 4 0\n 0 Flush\nend\n",
+        "glscript 1\ncontext 0 4 4 0\n0  Flush\nend\n",
+        "glscript 1\ncontext 0 4 4 0\n0 Flush 0\nend\n",
+        "glscript 1\ncontext 0 4 4 0\n0 Clear\nend\n",
+        "glscript 1\ncontext 0 4 4 0\n0 Clear 1 1\nend\n",
+        "glscript 1\ncontext 0 4 4 0\n0 Clear -1\nend\n",
+        "glscript 1\ncontext 0 4 4 0\n0 Clear 4294967296\nend\n",
+        "glscript 1\ncontext 0 4 4 0\n0 Clear 00000000001\nend\n",
+        "glscript 1\ncontext 0 4 4 0\n0 Clear 0x4000\nend\n",
+        "glscript 1\ncontext 0 4 4 0\n0 Clear 5x\nend\n",
+        "glscript 1\ncontext 0 4 4 0\n0 Clear -\nend\n",
+        "glscript 1\ncontext 0 4 4 0\n0 Clear DEPTH_BUFFER_BIT\nend\n",
+        "glscript 1\ncontext 0 4 4 0\n0 ClearColorx 0 0 0\nend\n",
+        "glscript 1\ncontext 0 4 4 0\n0 ClearColorx 2147483648 0 0 0\nend\n",
+        "glscript 1\ncontext 0 4 4 0\n0 ClearColorx 0 -2147483649 0 0\nend\n",
+        "glscript 1\ncontext 0 4 4 0\n0 ClearColorx 0 0 COLOR_BUFFER_BIT 0\nend\n",
+    ];
+    for text in &rows {
+        let left = replay(
+            &rt,
+            rt.alloc(),
+            &WORDS,
+            text.as_bytes(),
+            Outside::sure(rt.alloc(), 4096),
+        )?;
+        assert_eq!(rt; left.status, NOT_BUILT);
+        assert!(rt; left.shelf.is_empty());
+        assert!(rt; left.sink.bytes().is_empty());
+    }
+    Ok(())
+}
+
+/// Whether these words are refused, with nothing put or written.
+fn is_refused<T: Threads + Sync>(
+    rt: &T,
+    alloc: Global,
+    words: &[&str],
+) -> Result<bool, AllocError> {
+    let left = replay(rt, alloc, words, RED.as_bytes(), Outside::sure(alloc, 4096))?;
+    let untouched = left.shelf.is_empty() && left.sink.bytes().is_empty();
+    Ok(left.status == Status::BadWords && untouched)
+}
+
+#[test]
+fn other_words_are_refused_and_nothing_read(rt: HostRuntime) -> Result<(), Fail> {
+    assert!(rt; is_refused(&rt, rt.alloc(), &[])?);
+    assert!(rt; is_refused(&rt, rt.alloc(), &["run"])?);
+    assert!(rt; is_refused(&rt, rt.alloc(), &["direct"])?);
+    assert!(rt; is_refused(&rt, rt.alloc(), &["run", "--rail"])?);
+    assert!(rt; is_refused(&rt, rt.alloc(), &["run", "--rail", "epoch"])?);
+    assert!(rt; is_refused(&rt, rt.alloc(), &["run", "--rail", "inline", "inline"])?);
+    assert!(rt; is_refused(&rt, rt.alloc(), &["Run", "--rail", "inline"])?);
+    assert!(rt; is_refused(&rt, rt.alloc(), &["--rail", "inline", "run"])?);
+    Ok(())
+}
+
+// With 16 bytes a call the script takes six reads and one that finds its end, and the report three writes.
+#[test]
+fn each_fault_of_the_source_ends_the_run(rt: HostRuntime) -> Result<(), Fail> {
+    for call in 0..8u64 {
+        let mut outside = Outside::sure(rt.alloc(), 16);
+        outside.source.push(call)?;
+        let left = replay(&rt, rt.alloc(), &WORDS, RED.as_bytes(), outside)?;
+        if call < 7 {
+            assert_eq!(rt; left.status, Status::ReadFault);
+            assert!(rt; left.shelf.is_empty());
+            assert!(rt; left.sink.bytes().is_empty());
+        } else {
+            assert_eq!(rt; left.status, Status::Ok);
+        }
+    }
+    Ok(())
+}
+
+#[test]
+fn a_fault_of_the_shelf_leaves_nothing(rt: HostRuntime) -> Result<(), Fail> {
+    for call in 0..2u64 {
+        let mut outside = Outside::sure(rt.alloc(), 16);
+        outside.shelf.push(call)?;
+        let left = replay(&rt, rt.alloc(), &WORDS, RED.as_bytes(), outside)?;
+        if call == 0 {
+            assert_eq!(rt; left.status, Status::ShelfFault { stored: 0 });
+            assert!(rt; left.shelf.is_empty());
+            assert!(rt; left.sink.bytes().is_empty());
+        } else {
+            assert_eq!(rt; left.status, Status::Ok);
+        }
+    }
+    Ok(())
+}
+
+#[test]
+fn a_fault_of_the_sink_leaves_the_image_and_a_beginning(rt: HostRuntime) -> Result<(), Fail> {
+    let rows = [
+        (0u64, ""),
+        (1, "glreport 1\ncount"),
+        (2, "glreport 1\ncounts 0 2 0 0 1\nimag"),
+    ];
+    for (call, written) in &rows {
+        let mut outside = Outside::sure(rt.alloc(), 16);
+        outside.sink.push(*call)?;
+        let left = replay(&rt, rt.alloc(), &WORDS, RED.as_bytes(), outside)?;
+        assert_eq!(rt; left.status, Status::WriteFault);
+        assert_eq!(rt; left.sink.bytes(), written.as_bytes());
+        assert_eq!(rt; left.shelf.len(), 1);
+        assert_eq!(rt; left.shelf.bytes_at(0), RED_IMAGE);
+    }
+    Ok(())
+}
+
+#[test]
+fn the_words_name_the_rail(rt: HostRuntime) -> Result<(), Fail> {
+    let alloc = rt.alloc();
+    let mut words = Vec::new(alloc);
+    for word in WORDS {
+        words.push(String::from_str(alloc, word)?)?;
+    }
+    assert_eq!(rt; rail_of(&words), Some(RailKind::Inline));
+    Ok(())
+}

@@ -1,0 +1,6 @@
+pub mod Totals
+pub mod Histories
+pub mod Keeping
+pub mod Dealing
+pub mod SeatLemmas
+pub mod LawLemmas

@@ -1,0 +1,133 @@
+-- What the code computes at a point is its fragment, and its pixel.
+use Rattle.std.proofs.Common.{◌≡◌, ◌≢◌, ℕ, zero, suc, Bool, true, false, ◌&&◌, ℤ, pos, negsuc, neg_ℤ, ◌<ℤ◌, ◌≤ℤ◌, List, Option, Some, None, refl, sym, ap, ◌∙◌, arith}
+use Rattle.std.specs.Prelude.{int_le, int_lt, if◌then◌else◌}
+use Rattle.std.proofs.lemmas.Int.{ints}
+use Rattle.triangle_raster.specs.declared.vertex.Vertex.{Vertex}
+use Rattle.triangle_raster.specs.declared.vertex.View.{View}
+use Rattle.triangle_raster.specs.declared.fragment.Fragment.{Fragment}
+use Rattle.triangle_raster.specs.Vertex.{corner}
+use Rattle.triangle_raster.specs.Pixel.{Weights, delta_of, depth_of, is_covered, is_kept, is_zero, kept_fragment, mean, means, pixel_of, w_at, weighted, weights_of, z_at}
+
+pub all_true : (a b c : Bool) → (a && (b && c)) ≡ true → (a ≡ true) × (b ≡ true) × (c ≡ true)
+all_true true true true e = (refl, refl, refl)
+all_true true true false e = cc
+all_true true false c e = cc
+all_true false b c e = cc
+
+-- numbers that were passed and are what they were
+pub weighted_kept : (w : Weights) {a b c a' b' c' : ℤ} → a' ≡ a → b' ≡ b → c' ≡ c → weighted w a' b' c' ≡ weighted w a b c
+weighted_kept w {a} {b} {c} {a'} {b'} {c'} p q r =
+    ap (λ (z : ℤ). weighted w z b' c') p ∙ ap (λ (z : ℤ). weighted w a z c') q ∙ ap (λ (z : ℤ). weighted w a b z) r
+
+pub mean_kept : (w : Weights) {a b c a' b' c' : ℤ} → a' ≡ a → b' ≡ b → c' ≡ c → mean w a' b' c' ≡ mean w a b c
+mean_kept w {a} {b} {c} {a'} {b'} {c'} p q r =
+    ap (λ (z : ℤ). mean w z b' c') p ∙ ap (λ (z : ℤ). mean w a z c') q ∙ ap (λ (z : ℤ). mean w a b z) r
+
+pub between_from_test : (z w : ℤ) → is_kept z w ≡ true → (pos 0 <ℤ w) × (neg_ℤ w ≤ℤ z) × (z ≤ℤ w)
+unfolding is_kept
+between_from_test z w e =
+    let both = all_true (int_lt (pos 0) w) (int_le (neg_ℤ w) z) (int_le z w) e in
+    let first : int_lt (pos 0) w ≡ true = both.0 in
+    let second : int_le (neg_ℤ w) z ≡ true = both.1 in
+    let third : int_le z w ≡ true = both.2 in
+    (omega (arith, ints), omega (arith, ints), omega (arith, ints))
+
+pub test_from_code : (z w : ℤ) {a b c d n : ℤ} → a ≡ w → n ≡ neg_ℤ w → b ≡ z → c ≡ z → d ≡ w → (int_lt (pos 0) a && (int_le n b && int_le c d)) ≡ is_kept z w
+unfolding is_kept
+test_from_code z w {a} {b} {c} {d} {n} p q r s t =
+    ap (λ (k : ℤ). int_lt (pos 0) k && (int_le n b && int_le c d)) p
+    ∙ ap (λ (k : ℤ). int_lt (pos 0) w && (int_le k b && int_le c d)) q
+    ∙ ap (λ (k : ℤ). int_lt (pos 0) w && (int_le (neg_ℤ w) k && int_le c d)) r
+    ∙ ap (λ (k : ℤ). int_lt (pos 0) w && (int_le (neg_ℤ w) z && int_le k d)) s
+    ∙ ap (λ (k : ℤ). int_lt (pos 0) w && (int_le (neg_ℤ w) z && int_le z k)) t
+
+module _ (corners : List Vertex) (w : Weights) where
+  pub z_as_kept : {r a b c : ℤ} → r ≡ weighted w a b c → a ≡ (corner corners 0).z → b ≡ (corner corners 1).z → c ≡ (corner corners 2).z → r ≡ z_at corners w
+  unfolding z_at
+  z_as_kept e p q r = e ∙ weighted_kept w p q r
+
+  pub w_as_kept : {r a b c : ℤ} → r ≡ weighted w a b c → a ≡ (corner corners 0).w → b ≡ (corner corners 1).w → c ≡ (corner corners 2).w → r ≡ w_at corners w
+  unfolding w_at
+  w_as_kept e p q r = e ∙ weighted_kept w p q r
+
+  same_fragment : {fx fy x y : ℤ} {d depth : ℕ} {vs values : List ℤ} → fx ≡ x → fy ≡ y → d ≡ depth → vs ≡ values →
+      (let f : Fragment = record { x = fx; y = fy; depth = d; values = vs } in f) ≡ (let f : Fragment = record { x = x; y = y; depth = depth; values = values } in f)
+  same_fragment {fx} {fy} {x} {y} {d} {depth} {vs} {values} p q r s =
+      ap (λ (k : ℤ). let f : Fragment = record { x = k; y = fy; depth = d; values = vs } in f) p
+      ∙ ap (λ (k : ℤ). let f : Fragment = record { x = x; y = k; depth = d; values = vs } in f) q
+      ∙ ap (λ (k : ℕ). let f : Fragment = record { x = x; y = y; depth = k; values = vs } in f) r
+      ∙ ap (λ (k : List ℤ). let f : Fragment = record { x = x; y = y; depth = depth; values = k } in f) s
+
+  module _ (x y : ℤ) {z v : ℤ} (at_z : z ≡ z_at corners w) (at_w : v ≡ w_at corners w) where
+    test_as_kept : is_kept (z_at corners w) (w_at corners w) ≡ is_kept z v
+    test_as_kept = sym (ap (λ (k : ℤ). is_kept k v) at_z ∙ ap (λ (k : ℤ). is_kept (z_at corners w) k) at_w)
+
+    depth_as_seen : depth_of z v ≡ depth_of (z_at corners w) (w_at corners w)
+    depth_as_seen = ap (λ (k : ℤ). depth_of k v) at_z ∙ ap (λ (k : ℤ). depth_of (z_at corners w) k) at_w
+
+    pub some_fragment : {fx fy : ℤ} {d : ℕ} {vs : List ℤ} → is_kept z v ≡ true → fx ≡ x → fy ≡ y → d ≡ depth_of z v →
+        vs ≡ means w (corner corners 0).values (corner corners 1).values (corner corners 2).values →
+        Some (let f : Fragment = record { x = fx; y = fy; depth = d; values = vs } in f) ≡ kept_fragment corners w x y
+    unfolding kept_fragment
+    some_fragment t p q r s =
+        ap (λ (f : Fragment). Some f) (same_fragment p q (r ∙ depth_as_seen) s)
+        ∙ sym (ap (λ (b : Bool). if b then Some (let f : Fragment = record {
+          x = x;
+          y = y;
+          depth = depth_of (z_at corners w) (w_at corners w);
+          values = means w (corner corners 0).values (corner corners 1).values (corner corners 2).values;
+        } in f) else None) (test_as_kept ∙ t))
+
+    pub no_fragment : is_kept z v ≡ false → None ≡ kept_fragment corners w x y
+    unfolding kept_fragment
+    no_fragment t =
+        sym (ap (λ (b : Bool). if b then Some (let f : Fragment = record {
+          x = x;
+          y = y;
+          depth = depth_of (z_at corners w) (w_at corners w);
+          values = means w (corner corners 0).values (corner corners 1).values (corner corners 2).values;
+        } in f) else None) (test_as_kept ∙ t))
+
+-- a triangle whose corners don't stand on a line
+is_zero-other : (z : ℤ) → z ≢ pos 0 → is_zero z ≡ false
+is_zero-other (pos zero) h = absurd (h refl)
+is_zero-other (pos (suc n)) h = refl
+is_zero-other (negsuc n) h = refl
+
+-- a triangle whose corners stand on a line has no pixel
+is_zero-same : (z : ℤ) → z ≡ pos 0 → is_zero z ≡ true
+is_zero-same z e = ap is_zero e
+
+pub pixel_of-flat : (corners : List Vertex) (view : View) (x y : ℤ) → delta_of corners view ≡ pos 0 → pixel_of corners view x y ≡ None
+unfolding pixel_of
+pixel_of-flat corners view x y flat =
+    ap (λ (b : Bool). if b then None else (if is_covered corners view x y then kept_fragment corners (weights_of corners view x y) x y else None)) (is_zero-same _ flat)
+
+pub pixel_of-kept : {corners corners' : List Vertex} {view view' : View} {x y x' y' : ℤ} → corners' ≡ corners → view' ≡ view → x' ≡ x → y' ≡ y → pixel_of corners' view' x' y' ≡ pixel_of corners view x y
+pixel_of-kept {corners} {corners'} {view} {view'} {x} {y} {x'} {y'} p q r s =
+    ap (λ (k : List Vertex). pixel_of k view' x' y') p
+    ∙ ap (λ (k : View). pixel_of corners k x' y') q
+    ∙ ap (λ (k : ℤ). pixel_of corners view k y') r
+    ∙ ap (λ (k : ℤ). pixel_of corners view x k) s
+
+module _ (corners : List Vertex) (view : View) (x y : ℤ) (not_flat : delta_of corners view ≢ pos 0) where
+  pub pixel_of-covered : is_covered corners view x y ≡ true → pixel_of corners view x y ≡ kept_fragment corners (weights_of corners view x y) x y
+  unfolding pixel_of
+  pixel_of-covered e =
+      ap (λ (b : Bool). if b then None else (if is_covered corners view x y then kept_fragment corners (weights_of corners view x y) x y else None)) (is_zero-other _ not_flat)
+      ∙ ap (λ (b : Bool). if b then kept_fragment corners (weights_of corners view x y) x y else None) e
+
+  pub pixel_of-not_covered : is_covered corners view x y ≡ false → pixel_of corners view x y ≡ None
+  unfolding pixel_of
+  pixel_of-not_covered e =
+      ap (λ (b : Bool). if b then None else (if is_covered corners view x y then kept_fragment corners (weights_of corners view x y) x y else None)) (is_zero-other _ not_flat)
+      ∙ ap (λ (b : Bool). if b then kept_fragment corners (weights_of corners view x y) x y else None) e
+
+  -- the same from what was computed
+  pub pixel_as_kept : {w : Weights} {fx fy : ℤ} {r : Option Fragment} → w ≡ weights_of corners view x y → is_covered corners view x y ≡ true → fx ≡ x → fy ≡ y → r ≡ kept_fragment corners w fx fy → r ≡ pixel_of corners view x y
+  pixel_as_kept {w} {fx} {fy} same e p q h =
+      h
+      ∙ ap (λ (k : ℤ). kept_fragment corners w k fy) p
+      ∙ ap (λ (k : ℤ). kept_fragment corners w x k) q
+      ∙ ap (λ (u : Weights). kept_fragment corners u x y) same
+      ∙ sym (pixel_of-covered e)

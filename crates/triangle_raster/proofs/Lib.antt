@@ -1,0 +1,9 @@
+pub mod Bounds
+pub mod Vectors
+pub mod WholeNumbers
+pub mod Edges
+pub mod Shapes
+pub mod Means
+pub mod Fragments
+pub mod Rows
+pub mod SharedEdges

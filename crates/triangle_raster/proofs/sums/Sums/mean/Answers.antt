@@ -1,0 +1,53 @@
+use Rattle.std.proofs.Common.{◌≡◌, ◌∙◌, ◌^◌, to_z, of_z, arith, lit<}
+use Rattle.std.specs.Int.{w128}
+use Rattle.std.proofs.lemmas.Int.{ints}
+use Rattle.triangle_raster.specs.Vertex.{IsWithin}
+use Rattle.triangle_raster.specs.Pixel.{weighted}
+use Rattle.triangle_raster.specs.Held.{sums_seen}
+use Rattle.triangle_raster.proofs.Bounds.{kept_32, kept_128, as_128, as_32}
+use Rattle.triangle_raster.proofs.Means.{mean_as_kept, mean_within}
+use Rattle.triangle_raster.proofs.Fragments.{weighted_kept}
+use Rattle.triangle_raster.proofs.sums.Sums.mean.Goals as goal
+
+pub overflow_cast-result : goal.overflow_cast-result
+overflow_cast-result c =
+    let sum : to_z w128 (of_z w128 c.weighted.result) ≡ weighted (sums_seen c.args.self.now) c.args.a c.args.b c.args.c =
+    kept_128 c.weighted.ensures.near (lit< tt) ∙ c.weighted.ensures.value
+    ∙ weighted_kept _ (kept_32 c.requires.a (lit< tt)) (kept_32 c.requires.b (lit< tt)) (kept_32 c.requires.c (lit< tt))
+    in
+    let small : IsWithin (2 ^ 27) c.quotient.result =
+    mean_within (sums_seen c.args.self.now) c.requires.not_negative.from_one c.requires.not_negative.from_two c.requires.not_negative.from_three
+    c.args.a c.args.b c.args.c c.quotient.ensures sum
+    (kept_128 c.whole.ensures.near (lit< tt) ∙ c.whole.ensures.value)
+    (2 ^ 27) c.requires.some c.requires.a c.requires.b c.requires.c
+    in omega (arith, ints)
+
+pub returns-clause-near : goal.returns-clause-near
+returns-clause-near c =
+    let sum : to_z w128 (of_z w128 c.weighted.result) ≡ weighted (sums_seen c.args.self.now) c.args.a c.args.b c.args.c =
+    kept_128 c.weighted.ensures.near (lit< tt) ∙ c.weighted.ensures.value
+    ∙ weighted_kept _ (kept_32 c.requires.a (lit< tt)) (kept_32 c.requires.b (lit< tt)) (kept_32 c.requires.c (lit< tt))
+    in
+    let small : IsWithin (2 ^ 27) c.quotient.result =
+    mean_within (sums_seen c.args.self.now) c.requires.not_negative.from_one c.requires.not_negative.from_two c.requires.not_negative.from_three
+    c.args.a c.args.b c.args.c c.quotient.ensures sum
+    (kept_128 c.whole.ensures.near (lit< tt) ∙ c.whole.ensures.value)
+    (2 ^ 27) c.requires.some c.requires.a c.requires.b c.requires.c
+    in as_32 (as_128 small (lit< tt)) (lit< tt)
+
+pub returns-clause-value : goal.returns-clause-value
+returns-clause-value c =
+    let sum : to_z w128 (of_z w128 c.weighted.result) ≡ weighted (sums_seen c.args.self.now) c.args.a c.args.b c.args.c =
+    kept_128 c.weighted.ensures.near (lit< tt) ∙ c.weighted.ensures.value
+    ∙ weighted_kept _ (kept_32 c.requires.a (lit< tt)) (kept_32 c.requires.b (lit< tt)) (kept_32 c.requires.c (lit< tt))
+    in
+    let small : IsWithin (2 ^ 27) c.quotient.result =
+    mean_within (sums_seen c.args.self.now) c.requires.not_negative.from_one c.requires.not_negative.from_two c.requires.not_negative.from_three
+    c.args.a c.args.b c.args.c c.quotient.ensures sum
+    (kept_128 c.whole.ensures.near (lit< tt) ∙ c.whole.ensures.value)
+    (2 ^ 27) c.requires.some c.requires.a c.requires.b c.requires.c
+    in
+    kept_32 (as_128 small (lit< tt)) (lit< tt) ∙ kept_128 small (lit< tt)
+    ∙ mean_as_kept (sums_seen c.args.self.now) c.requires.not_negative.from_one c.requires.not_negative.from_two c.requires.not_negative.from_three
+    c.args.a c.args.b c.args.c c.quotient.ensures sum
+    (kept_128 c.whole.ensures.near (lit< tt) ∙ c.whole.ensures.value)

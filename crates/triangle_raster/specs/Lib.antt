@@ -1,0 +1,6 @@
+pub mod Vertex
+pub mod Pixel
+pub mod Row
+pub mod SharedEdge
+pub mod Held
+pub mod Inside

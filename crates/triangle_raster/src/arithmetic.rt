@@ -1,0 +1,67 @@
+//! Products and sums that are proved to fit.
+//! No clause asks for more room than the largest triangle needs.
+
+ghost use Rattle.std.specs.Prelude.{ℕ, ◌≡◌, ◌+◌, ◌*◌, ◌^◌, ◌+ℤ◌, ◌*ℤ◌, ◌<ℤ◌, ◌&&◌, pos};
+ghost use Rattle.std.specs.Int.{int_div_euclid};
+ghost use Rattle.triangle_raster.specs.Vertex.{IsWithin};
+
+/// The product of two numbers of 32 bits.
+pub fn small_product(a: i32, b: i32) -> i64
+    ensures value { result ≡ a *ℤ b }
+    ensures near { (m n : ℕ) → IsWithin m a → IsWithin n b → IsWithin (m * n) result }
+{
+    a as i64 * b as i64
+}
+
+/// The product of two numbers of 64 bits.
+pub fn product(a: i64, b: i64) -> i128
+    ensures value { result ≡ a *ℤ b }
+    ensures near { (m n : ℕ) → IsWithin m a → IsWithin n b → IsWithin (m * n) result }
+{
+    a as i128 * b as i128
+}
+
+/// The product of a number of 82 bits and one of 40.
+pub fn long_product(a: i128, b: i64) -> i128
+    requires a { IsWithin (2 ^ 81) a }
+    requires b { IsWithin (2 ^ 39) b }
+    ensures value { result ≡ a *ℤ b }
+    ensures near { (m n : ℕ) → IsWithin m a → IsWithin n b → IsWithin (m * n) result }
+{
+    a * b as i128
+}
+
+/// The sum of three numbers of 121 bits.
+pub fn total(a: i128, b: i128, c: i128) -> i128
+    requires a { IsWithin (2 ^ 120) a }
+    requires b { IsWithin (2 ^ 120) b }
+    requires c { IsWithin (2 ^ 120) c }
+    ensures value { result ≡ a +ℤ b +ℤ c }
+    ensures near { (l m n : ℕ) → IsWithin l a → IsWithin m b → IsWithin n c → IsWithin (l + m + n) result }
+{
+    a + b + c
+}
+
+/// A sum and twice a step.
+pub fn stepped(sum: i128, step: i128) -> i128
+    requires sum { IsWithin (2 ^ 81) sum }
+    requires step { IsWithin (2 ^ 68) step }
+    ensures { result ≡ sum +ℤ pos 2 *ℤ step }
+{
+    sum + 2 * step
+}
+
+/// A sum over the whole, rounded down.
+pub fn quotient(sum: i128, whole: i128) -> i128
+    requires { pos 0 <ℤ whole }
+    ensures { result ≡ int_div_euclid sum whole }
+{
+    sum.div_euclid(whole)
+}
+
+/// Whether all three are true.
+pub fn all_of(a: bool, b: bool, c: bool) -> bool
+    ensures { result ≡ (a && (b && c)) }
+{
+    a && b && c
+}

@@ -1,0 +1,84 @@
+//! A fragment: what a triangle leaves at one pixel.
+
+ghost use Rattle.std.specs.Prelude.{◌≡◌, ◌^◌, ◌+ℤ◌, ◌<ℤ◌, ◌≤ℤ◌, neg_ℤ, pos, All, IsTrue};
+ghost use Rattle.triangle_raster.specs.Vertex.{AreCorners, IsWithin};
+ghost use Rattle.triangle_raster.specs.Pixel.{depth_of, is_kept, kept_fragment, means};
+ghost use Rattle.triangle_raster.specs.Held.{sums_seen, AreNearSums, AreNotNegative};
+
+use crate::arithmetic::{all_of, quotient};
+use crate::sums::Sums;
+use crate::vertex::Vertex;
+
+/// What a triangle leaves at a pixel: its column and row, its depth before DepthRange (0 the near plane, 65535 the far
+/// one), and its ten values in the order of those of a corner (16.16 fixed). Section 3.5.1 of OpenGL ES 1.1.12.
+#[derive(Clone, Copy, Debug, PartialEq, Eq)]
+pub struct Fragment {
+    pub x: i32,
+    pub y: i32,
+    pub depth: u16,
+    pub values: [i32; 10],
+}
+
+/// Whether w is above zero, and z lies from -w to w.
+fn is_between(z: i128, w: i128) -> bool
+    requires z { IsWithin (2 ^ 110) z }
+    requires w { IsWithin (2 ^ 110) w }
+    ensures test { result ≡ is_kept z w }
+    ensures between { IsTrue result → (pos 0 <ℤ w) × (neg_ℤ w ≤ℤ z) × (z ≤ℤ w) }
+{
+    all_of(w > 0, -w <= z, z <= w)
+}
+
+/// The depth of a point with these sums of z and w.
+fn depth(z: i128, w: i128) -> u16
+    requires near { IsWithin (2 ^ 110) w }
+    requires positive { pos 0 <ℤ w }
+    requires from_near { neg_ℤ w ≤ℤ z }
+    requires to_far { z ≤ℤ w }
+    ensures { result ≡ depth_of z w }
+{
+    quotient((z + w) * 65535, 2 * w) as u16
+}
+
+/// The means of the ten values of three corners.
+fn values(a: &[i32; 10], b: &[i32; 10], c: &[i32; 10], sums: &Sums) -> [i32; 10]
+    requires a { All (IsWithin (2 ^ 27)) a.now }
+    requires b { All (IsWithin (2 ^ 27)) b.now }
+    requires c { All (IsWithin (2 ^ 27)) c.now }
+    requires sums { AreNearSums sums.now }
+    requires not_negative { AreNotNegative sums.now }
+    requires some { pos 0 <ℤ (sums.now.one +ℤ sums.now.two +ℤ sums.now.three) }
+    ensures { result ≡ means (sums_seen sums.now) a.now b.now c.now }
+{
+    let mut values = [0; 10];
+    for k in 0..10 {
+        values[k] = sums.mean(a[k], b[k], c[k]);
+    }
+    values
+}
+
+/// What is left at a covered point with these weights, or None where it isn't kept.
+pub fn kept(corners: &[Vertex; 3], sums: &Sums, x: i32, y: i32) -> Option<Fragment>
+    requires corners { AreCorners corners.now }
+    requires sums { AreNearSums sums.now }
+    requires not_negative { AreNotNegative sums.now }
+    ensures { result ≡ kept_fragment corners.now (sums_seen sums.now) x y }
+{
+    let z = sums.weighted(corners[0].z, corners[1].z, corners[2].z);
+    let w = sums.weighted(corners[0].w, corners[1].w, corners[2].w);
+    if is_between(z, w) {
+        Some(Fragment {
+            x,
+            y,
+            depth: depth(z, w),
+            values: values(
+                &corners[0].values,
+                &corners[1].values,
+                &corners[2].values,
+                sums,
+            ),
+        })
+    } else {
+        None
+    }
+}

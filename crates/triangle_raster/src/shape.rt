@@ -1,0 +1,111 @@
+//! A triangle with its edges, and what they say of a point.
+
+ghost use Rattle.std.specs.Prelude.{◌≡◌, ◌≤◌, ◌^◌, ℤ, ◌+ℤ◌, ◌*ℤ◌, ◌<ℤ◌, ◌≤ℤ◌, ◌↔◌, pos, IsNone, IfSome, IsTrue};
+ghost use Rattle.triangle_raster.specs.Vertex.{AreCorners, IsView, IsFromTo};
+ghost use Rattle.triangle_raster.specs.Pixel.{delta_of, is_covered, pixel_of};
+ghost use Rattle.triangle_raster.specs.Held.{AreNearSums, AreNotNegative, AreSumsAt, IsShape};
+
+use crate::arithmetic::{all_of, stepped};
+use crate::edge::{Edge, Point};
+use crate::fragment::{Fragment, kept};
+use crate::sums::Sums;
+use crate::vertex::{Vertex, View};
+
+/// A triangle whose corners don't stand on a line, with its edges turned inward.
+#[derive(Clone, Copy)]
+pub struct Shape {
+    pub corners: [Vertex; 3],
+    pub view: View,
+    pub one: Edge,
+    pub two: Edge,
+    pub three: Edge,
+    pub counter_clockwise: bool,
+}
+
+impl Shape {
+    /// None where the corners stand on a line.
+    pub fn new(corners: &[Vertex; 3], view: View) -> Option<Self>
+        requires corners { AreCorners corners.now }
+        requires view { IsView view }
+        ensures flat { IsNone result ↔ (delta_of corners.now view ≡ pos 0) }
+        ensures shape { IfSome result IsShape }
+        ensures corners { IfSome result (λ s. s.corners ≡ corners.now) }
+        ensures view { IfSome result (λ s. s.view ≡ view) }
+    {
+        let first = Point::of_corner(&corners[0], &view);
+        let second = Point::of_corner(&corners[1], &view);
+        let third = Point::of_corner(&corners[2], &view);
+        let one = Edge::between(&second, &third);
+        let two = Edge::between(&third, &first);
+        let three = Edge::between(&first, &second);
+        let delta = one.at(&first);
+        if delta == 0 {
+            return None;
+        }
+        Some(Shape {
+            corners: *corners,
+            view,
+            one: one.inward(delta),
+            two: two.inward(delta),
+            three: three.inward(delta),
+            counter_clockwise: delta > 0,
+        })
+    }
+
+    /// The values of the edges at the centre of the pixel in column x and row y, by multiplication.
+    pub fn sums_at(&self, x: i32, y: i32) -> Sums
+        requires shape { IsShape self.now }
+        requires x { IsFromTo (pos 0) (pos 256) x }
+        requires y { IsFromTo (pos 0) (pos 256) y }
+        ensures sums { AreSumsAt self.now x y result }
+        ensures near { AreNearSums result }
+    {
+        let centre = Point::of_centre(x, y);
+        Sums {
+            one: self.one.at(&centre),
+            two: self.two.at(&centre),
+            three: self.three.at(&centre),
+        }
+    }
+
+    /// The values of the edges one column further.
+    pub fn next_sums(&self, sums: &Sums) -> Sums
+        requires shape { IsShape self.now }
+        requires near { AreNearSums sums.now }
+        ensures { (x y : ℤ) → AreSumsAt self.now x y sums.now → AreSumsAt self.now (x +ℤ pos 1) y result }
+    {
+        Sums {
+            one: stepped(sums.one, self.one.x),
+            two: stepped(sums.two, self.two.x),
+            three: stepped(sums.three, self.three.x),
+        }
+    }
+
+    /// Whether a point with these sums is covered.
+    fn covers(&self, sums: &Sums) -> bool
+        requires shape { IsShape self.now }
+        requires near { AreNearSums sums.now }
+        ensures covered { (x y : ℤ) → AreSumsAt self.now x y sums.now → result ≡ is_covered self.now.corners self.now.view x y }
+        ensures not_negative { IsTrue result → AreNotNegative sums.now }
+    {
+        all_of(
+            self.one.passes(sums.one),
+            self.two.passes(sums.two),
+            self.three.passes(sums.three),
+        )
+    }
+
+    /// The pixel in column x and row y, where the sums are those of its centre.
+    pub fn pixel(&self, sums: &Sums, x: i32, y: i32) -> Option<Fragment>
+        requires shape { IsShape self.now }
+        requires near { AreNearSums sums.now }
+        requires sums { AreSumsAt self.now x y sums.now }
+        ensures { result ≡ pixel_of self.now.corners self.now.view x y }
+    {
+        if self.covers(sums) {
+            kept(&self.corners, sums, x, y)
+        } else {
+            None
+        }
+    }
+}
