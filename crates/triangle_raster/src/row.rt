@@ -35,7 +35,7 @@ impl Model for Row {
 
 impl Row {
     /// The row from column x on, of so many columns. The sums there are found by multiplication.
-    pub fn from_column(shape: Shape, y: i32, x: i32, left: u32) -> Row
+    pub(crate) fn from_column(shape: Shape, y: i32, x: i32, left: u32) -> Row
         requires shape { IsShape shape }
         requires y { IsFromTo (pos 0) (pos 256) y }
         requires x { pos 0 ≤ℤ x }
