@@ -10,11 +10,20 @@ use std::{env, io};
 
 const HELP: &str = "glreplay replays a script of OpenGL ES 1.1 calls from standard input.
 
-    glreplay run --rail inline < SCRIPT
+    glreplay run [--batch SLOTS] [--ring BATCHES] [--rail RAIL] < SCRIPT
+    glreplay direct < SCRIPT
     glreplay --help
     glreplay --version
 
 The report goes to standard output, the images into the current folder.
+
+run replays the script through the threaded layer. Its options may stand in any order, each at most once:
+
+    --batch SLOTS     slots of eight bytes in a batch, 16 to 8192 (1024)
+    --ring BATCHES    batches on their way at once, 1 to 64 (8)
+    --rail RAIL       how batches are handed over: inline (inline)
+
+direct carries out each call as its line is read, and its report has no line of counts.
 ";
 
 const VERSION: &str = "glreplay 0.1.0\n";

@@ -1,15 +1,10 @@
-pub mod Bodies
-pub mod Calls
 pub mod CountLemmas
 pub mod Delivery
 pub mod DirectLemmas
-pub mod Heads
 pub mod Images
-pub mod LineLemmas
 pub mod Outcomes
-pub mod Pieces
+pub mod Rails
 pub mod Reports
 pub mod RunLemmas
-pub mod Sizes
 pub mod Tallies
 pub mod WordList

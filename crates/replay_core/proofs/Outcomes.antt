@@ -1,5 +1,5 @@
 -- What a run leaves, from what its parts leave.
-use Rattle.std.proofs.Common.{◌≡◌, ℕ, ◌+◌, ◌<◌, ◌≤◌, List, [], ◌∷◌, ◌++◌, length, take, drop, Option, Some, None, Bool, true, false, cond, refl, sym, ap, subst, ◌∙◌, arith, inl, inr, ◌⊎◌}
+use Rattle.std.proofs.Common.{◌≡◌, ℕ, ◌+◌, ◌<◌, ◌≤◌, List, [], ◌∷◌, ◌++◌, length, take, drop, Option, Some, None, Ok, Err, refl, sym, ap, subst, ◌∙◌, arith, inl, inr, ◌⊎◌}
 use Rattle.std.proofs.lemmas.Bool.Decides.{nat_tests}
 use Rattle.std.proofs.lemmas.Grind.{common_steps}
 use Rattle.std.proofs.lemmas.List.{take_all, append-nil}
@@ -11,31 +11,36 @@ use Rattle.gl_outside.specs.Moved.{Takes, TakesAtMost, Adds, AddsPart, IsAtEnd}
 use Rattle.replay_core.specs.declared.status.Status.{Status}
 use Rattle.replay_core.specs.declared.status.Status.TheVariants.{Ok as Done, BadWords, ReadFault, BadScript, ShelfFault, WriteFault, NoMemory}
 use Rattle.replay_core.specs.Deliver.{Delivers, LeavesBoth}
-use Rattle.replay_core.specs.Script.{Scripted, most_lines}
-use Rattle.replay_core.specs.ScriptText.{most_bytes, script_of, script_in}
-use Rattle.replay_core.specs.Report.{report_of}
+use Rattle.script_reader.specs.declared.script.ContextSpec.{ContextSpec}
+use Rattle.script_reader.specs.Limits.{HasOneContext}
+use Rattle.replay_core.specs.Script.{IsOneContext, seen_script}
+use Rattle.script_reader.specs.Grammar.{script_of}
+use Rattle.script_reader.specs.declared.error.ScriptError.{ScriptError}
+use Rattle.script_reader.specs.declared.script.Script.{Script}
+use Rattle.script_reader.proofs.Within.{what_is_spelled_is_within}
+use Rattle.replay_core.specs.declared.words.Command.{Command}
+use Rattle.replay_core.specs.Report.{report_for}
 use Rattle.replay_core.specs.Images.{images_of, frame_of, frame_name}
 use Rattle.replay_core.specs.Direct.{final_own}
-use Rattle.replay_core.specs.Outcome.{ReadsScript, ReadsNoScript, Replays, PutsSome, WritesSome, StopsAnywhere, batch_size}
-
--- what is chosen by two tests in a row is there only where the first holds
-first_holds : {X : Type 0} (a b : Bool) (o : Option X) (x : X) → cond (a && b) o None ≡ Some x → a ≡ true
-first_holds true b o x h = refl
-first_holds false b o x h = cc
+use Rattle.replay_core.specs.Outcome.{most_bytes, ReadsScript, ReadsNoScript, Replays, PutsSome, WritesSome, StopsAnywhere}
 
 -- a script has no more bytes than it may have
-pub script_fits : (bytes : List ℕ) (script : Scripted) → script_of bytes ≡ Some script → length bytes ≤ most_bytes
-unfolding script_of
-script_fits bytes script h = let fits : nat_le (length bytes) most_bytes ≡ true = first_holds (nat_le (length bytes) most_bytes) (nat_le (count_by (λ b. b == 10) bytes) most_lines) (script_in bytes) script h in grind (arith, nat_tests)
+pub script_fits : (bytes : List ℕ) (script : Script) → script_of bytes ≡ Ok script → length bytes ≤ most_bytes
+script_fits bytes script h = (what_is_spelled_is_within bytes script h).few_bytes
 
 -- the bytes that are a script were read to the end
-pub reads_script : (left_before left_after : Option (List ℕ)) (bytes : List ℕ) (script : Scripted) → Takes left_before left_after bytes → (length bytes < most_bytes + 1 → IsAtEnd left_after) → script_of bytes ≡ Some script → ReadsScript left_before left_after script
+pub reads_script : (left_before left_after : Option (List ℕ)) (bytes : List ℕ) (script : Script) → Takes left_before left_after bytes → (length bytes < most_bytes + 1 → IsAtEnd left_after) → script_of bytes ≡ Ok script → ReadsScript left_before left_after script
 reads_script before after bytes script taken ends is_script = record {
   bytes = bytes;
   taken = taken;
   at_end = ends (omega (arith, script_fits bytes script is_script));
   is_script = is_script;
 }
+
+-- the bytes that are refused were read to the end, or up to one more than a script may have
+pub reads_no_script : (left_before left_after : Option (List ℕ)) (bytes : List ℕ) (error : ScriptError) → Takes left_before left_after bytes → length bytes ≤ most_bytes + 1 → (length bytes < most_bytes + 1 → IsAtEnd left_after) → (length bytes < most_bytes + 1) ⊎ (most_bytes + 1 ≤ length bytes) → script_of bytes ≡ Err error → ReadsNoScript left_before left_after error
+reads_no_script before after bytes error taken within ends (inl fewer) refused = record { bytes = bytes; taken = taken; no_more = within; enough = inl (ends fewer); is_refused = refused }
+reads_no_script before after bytes error taken within ends (inr enough) refused = record { bytes = bytes; taken = taken; no_more = within; enough = inr (omega arith); is_refused = refused }
 
 -- bytes that are fewer than a limit or as many, and are all of what was left where they are fewer, are the first of it
 first_of_left : (limit : ℕ) (left bytes rest : List ℕ) → left ≡ bytes ++ rest → length bytes ≤ limit → (length bytes < limit → left ≡ bytes) → (length bytes < limit) ⊎ (limit ≤ length bytes) → bytes ≡ take limit left
@@ -54,24 +59,22 @@ unfolding Takes
 read_is_take limit left bytes None within taken whole = absurd taken
 read_is_take limit left bytes (Some rest) within taken whole = first_of_left limit left bytes rest taken within whole (cases_lt (length bytes) limit)
 
--- bytes that are refused were read where what was left is refused
-pub refused_is_read : (left bytes : List ℕ) (after : Option (List ℕ)) (script : Scripted) → length bytes ≤ most_bytes + 1 → Takes (Some left) after bytes → (length bytes < most_bytes + 1 → left ≡ bytes) → script_of (take (most_bytes + 1) left) ≡ None → script_of bytes ≡ Some script → ⊥
-refused_is_read left bytes after script within taken whole refused is_script =
-    let e : script_of bytes ≡ None = ap (λ bs. script_of bs) (read_is_take (most_bytes + 1) left bytes after within taken whole) ∙ refused in
-    cc
+-- what was read is refused with the error with which what was left is
+pub refused_is_read : (left bytes : List ℕ) (after : Option (List ℕ)) (error : ScriptError) → length bytes ≤ most_bytes + 1 → Takes (Some left) after bytes → (length bytes < most_bytes + 1 → left ≡ bytes) → script_of (take (most_bytes + 1) left) ≡ Err error → script_of bytes ≡ Err error
+refused_is_read left bytes after error within taken whole refused =
+    ap (λ bs. script_of bs) (read_is_take (most_bytes + 1) left bytes after within taken whole) ∙ refused
 
--- bytes that are accepted were read where what was left is accepted
-pub accepted_is_read : (left bytes : List ℕ) (after : Option (List ℕ)) (script : Scripted) → length bytes ≤ most_bytes + 1 → Takes (Some left) after bytes → (length bytes < most_bytes + 1 → left ≡ bytes) → script_of left ≡ Some script → script_of bytes ≡ None → ⊥
-accepted_is_read left bytes after script within taken whole accepted refused =
+-- what was read is accepted where what was left is
+pub accepted_is_read : (left bytes : List ℕ) (after : Option (List ℕ)) (script : Script) → length bytes ≤ most_bytes + 1 → Takes (Some left) after bytes → (length bytes < most_bytes + 1 → left ≡ bytes) → script_of left ≡ Ok script → script_of bytes ≡ Ok script
+accepted_is_read left bytes after script within taken whole accepted =
     let fits : length left ≤ most_bytes + 1 = omega (arith, script_fits left script accepted) in
     let all : take (most_bytes + 1) left ≡ left = take_all (most_bytes + 1) left fits in
-    let e : script_of left ≡ None = ap (λ bs. script_of bs) (sym (read_is_take (most_bytes + 1) left bytes after within taken whole ∙ all)) ∙ refused in
-    cc
+    ap (λ bs. script_of bs) (read_is_take (most_bytes + 1) left bytes after within taken whole ∙ all) ∙ accepted
 
 -- what all that was put and written is, where a run ends well
-pub replays : (status : Status) (lb la hb ha : Option (List ℕ)) (sb sa : Option (List (List ℕ × List ℕ))) (script : Scripted) (image report : List ℕ) → status ≡ Done → ReadsScript lb la script → image ≡ frame_of (final_own script) → report ≡ report_of batch_size script → Delivers status hb ha sb sa ((frame_name, image) ∷ []) report → Replays lb la hb ha sb sa
+pub replays : (command : Command) (status : Status) (lb la hb ha : Option (List ℕ)) (sb sa : Option (List (List ℕ × List ℕ))) (script : Script) (image report : List ℕ) → status ≡ Done → ReadsScript lb la script → image ≡ frame_of (final_own (seen_script script)) → report ≡ report_for command (seen_script script) → Delivers status hb ha sb sa ((frame_name, image) ∷ []) report → Replays command lb la hb ha sb sa
 unfolding images_of
-replays status lb la hb ha sb sa script image report is_done read is_image is_report delivers =
+replays command status lb la hb ha sb sa script image report is_done read is_image is_report delivers =
     let P : Status → Type 0 = λ s. Delivers s hb ha sb sa ((frame_name, image) ∷ []) report in
     let done : Delivers Done hb ha sb sa ((frame_name, image) ∷ []) report = subst P is_done delivers in
     let W : List ℕ → Type 0 = λ r. Adds hb ha r in
@@ -79,20 +82,20 @@ replays status lb la hb ha sb sa script image report is_done read is_image is_re
     record { script = script; read = read; written = subst W is_report done.0; put = subst I is_image done.1 }
 
 -- what stands after a put that failed
-pub puts_some : (status : Status) (lb la hb ha : Option (List ℕ)) (sb sa : Option (List (List ℕ × List ℕ))) (script : Scripted) (image report : List ℕ) (stored : ℕ) → status ≡ ShelfFault stored → ReadsScript lb la script → Delivers status hb ha sb sa ((frame_name, image) ∷ []) report → PutsSome lb la sb sa stored
+pub puts_some : (status : Status) (lb la hb ha : Option (List ℕ)) (sb sa : Option (List (List ℕ × List ℕ))) (script : Script) (image report : List ℕ) (stored : ℕ) → status ≡ ShelfFault stored → ReadsScript lb la script → Delivers status hb ha sb sa ((frame_name, image) ∷ []) report → PutsSome lb la sb sa stored
 unfolding images_of
 puts_some status lb la hb ha sb sa script image report stored is_fault read delivers =
     let P : Status → Type 0 = λ s. Delivers s hb ha sb sa ((frame_name, image) ∷ []) report in
     let stands = subst P is_fault delivers in
     let none : stored ≡ 0 = stands.0 in
     let A : Option (List (List ℕ × List ℕ)) → Type 0 = λ l. Adds sb l [] in
-    let T : ℕ → Type 0 = λ n. Adds sb sa (take n ((frame_name, frame_of (final_own script)) ∷ [])) in
+    let T : ℕ → Type 0 = λ n. Adds sb sa (take n ((frame_name, frame_of (final_own (seen_script script))) ∷ [])) in
     record { script = script; read = read; fewer = omega arith; put = subst T (sym none) (subst A (sym stands.1.listed) (Adds-nil sb)) }
 
 -- what stands after a write that failed
-pub writes_some : (status : Status) (lb la hb ha : Option (List ℕ)) (sb sa : Option (List (List ℕ × List ℕ))) (script : Scripted) (image report : List ℕ) → status ≡ WriteFault → ReadsScript lb la script → image ≡ frame_of (final_own script) → report ≡ report_of batch_size script → Delivers status hb ha sb sa ((frame_name, image) ∷ []) report → WritesSome lb la hb ha sb sa
+pub writes_some : (command : Command) (status : Status) (lb la hb ha : Option (List ℕ)) (sb sa : Option (List (List ℕ × List ℕ))) (script : Script) (image report : List ℕ) → status ≡ WriteFault → ReadsScript lb la script → image ≡ frame_of (final_own (seen_script script)) → report ≡ report_for command (seen_script script) → Delivers status hb ha sb sa ((frame_name, image) ∷ []) report → WritesSome command lb la hb ha sb sa
 unfolding images_of
-writes_some status lb la hb ha sb sa script image report is_fault read is_image is_report delivers =
+writes_some command status lb la hb ha sb sa script image report is_fault read is_image is_report delivers =
     let P : Status → Type 0 = λ s. Delivers s hb ha sb sa ((frame_name, image) ∷ []) report in
     let stands = subst P is_fault delivers in
     let W : List ℕ → Type 0 = λ r. AddsPart hb ha r in
@@ -100,9 +103,9 @@ writes_some status lb la hb ha sb sa script image report is_fault read is_image 
     record { script = script; read = read; written = subst W is_report stands.written; put = subst I is_image stands.put }
 
 -- what stands where memory was refused
-pub stops_anywhere : (status : Status) (lb la hb ha : Option (List ℕ)) (sb sa : Option (List (List ℕ × List ℕ))) (script : Scripted) (image report : List ℕ) → status ≡ NoMemory → ReadsScript lb la script → image ≡ frame_of (final_own script) → report ≡ report_of batch_size script → Delivers status hb ha sb sa ((frame_name, image) ∷ []) report → StopsAnywhere lb la hb ha sb sa
+pub stops_anywhere : (command : Command) (status : Status) (lb la hb ha : Option (List ℕ)) (sb sa : Option (List (List ℕ × List ℕ))) (script : Script) (image report : List ℕ) → status ≡ NoMemory → ReadsScript lb la script → image ≡ frame_of (final_own (seen_script script)) → report ≡ report_for command (seen_script script) → Delivers status hb ha sb sa ((frame_name, image) ∷ []) report → StopsAnywhere command lb la hb ha sb sa
 unfolding images_of
-stops_anywhere status lb la hb ha sb sa script image report is_none read is_image is_report delivers =
+stops_anywhere command status lb la hb ha sb sa script image report is_none read is_image is_report delivers =
     let P : Status → Type 0 = λ s. Delivers s hb ha sb sa ((frame_name, image) ∷ []) report in
     let W : List ℕ → Type 0 = λ r. AddsPart hb ha r in
     let I : List ℕ → Type 0 = λ i. Adds sb sa ((frame_name, i) ∷ []) in
@@ -110,3 +113,11 @@ stops_anywhere status lb la hb ha sb sa script image report is_none read is_imag
       | inl leaves ↦ inl (leaves, record { some = read.bytes; taken = read.taken; few = omega (arith, script_fits read.bytes script read.is_script) })
       | inr stands ↦ inr (record { script = script; read = read; written = subst W is_report stands.written; put = subst I is_image stands.put })
     ]
+
+-- contexts that are one within the limits of a script
+pub one_context : (contexts : List ContextSpec) → HasOneContext contexts → IsOneContext contexts
+one_context contexts h = record {
+  context = h.0;
+  only = h.1;
+  sides = record { wide = h.2.some_columns; no_wider = h.2.few_columns; high = h.2.some_rows; no_higher = h.2.few_rows };
+}

@@ -6,9 +6,9 @@ use Rattle.gl_front.specs.declared.driver.Reply.{Reply}
 use Rattle.gl_front.specs.Driver.{RunsFrom}
 use Rattle.gl_front.specs.Rail.{StandsForNoMore}
 use Rattle.gl_front.specs.Front.{Fronting, StandsFor, new_front}
-use Rattle.replay_core.specs.declared.script.Line.{Line}
+use Rattle.script_reader.specs.declared.script.Line.{Line}
 use Rattle.replay_core.specs.declared.lines.Answer.{Answer}
-use Rattle.replay_core.specs.Script.{Scripted, calls_of}
+use Rattle.replay_core.specs.Script.{Scripted, calls_of, call_on}
 use Rattle.replay_core.specs.Own.{Own, first_own, own_after, reply_of}
 use Rattle.replay_core.specs.Direct.{told_of, own_after_lines, answers_of, final_own, script_answers}
 use Rattle.replay_core.specs.Images.{ppm_of, frame_of}
@@ -17,9 +17,9 @@ use Rattle.batch_pack.specs.Cutting.{Tally, tally_of}
 use Rattle.replay_core.specs.Lines.{Lines, RunsLines}
 
 -- lines, and then one more
-pub Lines-push : {S : Type 0} (steps : S → Call → S → Reply → Type 0) (st mid st2 : S) (lines : List Line) (line : Line) (done : List Answer) (reply : Reply) → Lines steps st lines mid done → steps mid line.call st2 reply → Lines steps st (lines ++ line ∷ []) st2 (done ++ told_of line reply)
+pub Lines-push : {S : Type 0} (steps : S → Call → S → Reply → Type 0) (st mid st2 : S) (lines : List Line) (line : Line) (done : List Answer) (reply : Reply) → Lines steps st lines mid done → steps mid (call_on line) st2 reply → Lines steps st (lines ++ line ∷ []) st2 (done ++ told_of line reply)
 Lines-push {S} steps st mid st2 [] line done reply before step =
-    let P : S → Type 0 = λ s. steps s line.call st2 reply in
+    let P : S → Type 0 = λ s. steps s (call_on line) st2 reply in
     (st2, reply, [], subst P before.0 step, ap (λ ds. ds ++ told_of line reply) before.1 ∙ sym (append-nil (told_of line reply)), (refl, refl))
 Lines-push steps st mid st2 (first ∷ lines) line done reply (next, first_reply, others, first_step, same, rest) step = (
   next,
@@ -41,11 +41,11 @@ lines_are_direct st st2 [] done run = run
 lines_are_direct st st2 (line ∷ lines) done (mid, reply, others, step, same, rest) =
     let later : (st2 ≡ own_after_lines mid lines) × (others ≡ answers_of mid lines) = lines_are_direct mid st2 lines others rest in (
       later.0 ∙ ap (λ st. own_after_lines st lines) step.0,
-      same ∙ ap (λ r. told_of line r ++ others) step.1 ∙ ap (λ os. told_of line (reply_of st line.call) ++ os) (later.1 ∙ ap (λ s. answers_of s lines) step.0),
+      same ∙ ap (λ r. told_of line r ++ others) step.1 ∙ ap (λ os. told_of line (reply_of st (call_on line)) ++ os) (later.1 ∙ ap (λ s. answers_of s lines) step.0),
     )
 
 -- lines run, and then one more line whose call is carried out
-pub RunsLines-push : {S : Type 0} (starts ends later_ends : S → Type 0) (steps : S → Call → S → Reply → Type 0) (lines : List Line) (line : Line) (reply : Reply) (old new newer : List Answer) → RunsLines starts steps lines ends old new → ((st2 : S) → later_ends st2 → (st : S) × ends st × steps st line.call st2 reply) → newer ≡ new ++ told_of line reply → RunsLines starts steps (lines ++ line ∷ []) later_ends old newer
+pub RunsLines-push : {S : Type 0} (starts ends later_ends : S → Type 0) (steps : S → Call → S → Reply → Type 0) (lines : List Line) (line : Line) (reply : Reply) (old new newer : List Answer) → RunsLines starts steps lines ends old new → ((st2 : S) → later_ends st2 → (st : S) × ends st × steps st (call_on line) st2 reply) → newer ≡ new ++ told_of line reply → RunsLines starts steps (lines ++ line ∷ []) later_ends old newer
 RunsLines-push {S} starts ends later_ends steps lines line reply old new newer run carries added = record {
   done = run.done ++ told_of line reply;
   extended = added ∙ ap (λ answers. answers ++ told_of line reply) run.extended ∙ append_assoc old run.done (told_of line reply);
@@ -60,8 +60,14 @@ pub RunsLines-nil : {S : Type 0} (starts : S → Type 0) (steps : S → Call →
 RunsLines-nil starts steps old = record { done = []; extended = sym (append-nil old); leads = λ st2 h. (st2, h, (refl, refl)) }
 
 -- the calls of the lines from a place on: that of the line there, and those from the next place on
-pub calls_of-drop : (lines : List Line) (i : ℕ) (d : Line) → i < length lines → calls_of (drop i lines) ≡ (get_or lines i d).call ∷ calls_of (drop (i + 1) lines)
+pub calls_of-drop : (lines : List Line) (i : ℕ) (d : Line) → i < length lines → calls_of (drop i lines) ≡ call_on (get_or lines i d) ∷ calls_of (drop (i + 1) lines)
 calls_of-drop lines i d inside = ap (λ ls. calls_of ls) (drop_more lines i d inside)
+
+-- what a call leads to, an equal call does
+pub carries_same : {S : Type 0} (ends later_ends : S → Type 0) (steps : S → Call → S → Reply → Type 0) (call other : Call) (reply : Reply) → call ≡ other → ((st2 : S) → later_ends st2 → (st : S) × ends st × steps st call st2 reply) → (st2 : S) → later_ends st2 → (st : S) × ends st × steps st other st2 reply
+carries_same {S} ends later_ends steps call other reply same carries =
+    let P : Call → Type 0 = λ k. (st2 : S) → later_ends st2 → (st : S) × ends st × steps st k st2 reply in
+    subst P same carries
 
 -- what a front stands for at the end, its rail launched with a first context, is the end of the direct machine; and so are the answers
 run_from_new : {R : Type 0} (stands : R → Own → Type 0) (rail : R) (first driver : Own) (later flushed : Fronting R) (lines : List Line) (answers : List Answer) → ((st : Own) → stands rail st → st ≡ first) → RunsLines (StandsFor stands context_steps (new_front rail)) context_steps lines (StandsFor stands context_steps later) [] answers → StandsForNoMore (StandsFor stands context_steps later) (StandsFor stands context_steps flushed) → flushed.calls ≡ [] → stands flushed.rail driver → (driver ≡ own_after_lines first lines) × (answers ≡ answers_of first lines)

@@ -13,8 +13,8 @@ use Rattle.batch_pack.specs.Spelling.{slot_of, slots_of, spelling_of, spellings_
 use Rattle.batch_pack.specs.Batch.{slots_used}
 use Rattle.batch_pack.specs.Class.{class_of, is_flush}
 use Rattle.batch_pack.specs.Cutting.{batch_unless_empty, batches_from, count_of, cut_before, ended_at, ended_by, fits_behind, is_class, joined, open_after, open_by}
-use Rattle.replay_core.specs.declared.script.Line.{Line}
-use Rattle.replay_core.specs.Script.{calls_of}
+use Rattle.script_reader.specs.declared.script.Line.{Line}
+use Rattle.replay_core.specs.Script.{calls_of, call_on}
 
 -- no call has more than four arguments
 pub few_arguments : (call : Call) → length (arguments call) ≤ 4
@@ -78,11 +78,11 @@ slots_used-open_by size batch call true false f g = rw (g, f) (slots_used-behind
 slots_used-open_by size batch call false false f g = rw (g, f) (slots_used-behind [] call ∙ ap (λ n. n + slots_of call) slots_used-none)
 
 -- the batches from a line on: those that end at its call, and those of the lines behind it
-pub batches_from-drop : (size : ℕ) (batch : List Call) (lines : List Line) (i : ℕ) (line : Line) → i < length lines → length (batches_from size batch (calls_of (drop i lines))) ≡ length (ended_at size batch (get_or lines i line).call) + length (batches_from size (open_after size batch (get_or lines i line).call) (calls_of (drop (i + 1) lines)))
+pub batches_from-drop : (size : ℕ) (batch : List Call) (lines : List Line) (i : ℕ) (line : Line) → i < length lines → length (batches_from size batch (calls_of (drop i lines))) ≡ length (ended_at size batch (call_on (get_or lines i line))) + length (batches_from size (open_after size batch (call_on (get_or lines i line))) (calls_of (drop (i + 1) lines)))
 unfolding batches_from
 batches_from-drop size batch lines i line inside =
     at_drop_more (λ left. length (batches_from size batch (calls_of left))) lines i line inside
-    ∙ length-append (ended_at size batch (get_or lines i line).call) (batches_from size (open_after size batch (get_or lines i line).call) (calls_of (drop (i + 1) lines)))
+    ∙ length-append (ended_at size batch (call_on (get_or lines i line))) (batches_from size (open_after size batch (call_on (get_or lines i line))) (calls_of (drop (i + 1) lines)))
 
 -- the batches behind the last line: the open one
 pub batches_from-none : (size : ℕ) (batch : List Call) → batches_from size batch [] ≡ batch_unless_empty batch
@@ -90,6 +90,6 @@ unfolding batches_from
 batches_from-none size batch = refl
 
 -- a count over the calls of lines is one over the lines
-pub count_of-calls_of : (class : Class) (lines : List Line) → count_of class (calls_of lines) ≡ count_by (λ line. is_class class (class_of line.call)) lines
+pub count_of-calls_of : (class : Class) (lines : List Line) → count_of class (calls_of lines) ≡ count_by (λ line. is_class class (class_of (call_on line))) lines
 unfolding count_of
-count_of-calls_of class lines = fold-map (λ n call. n + cond (is_class class (class_of call)) 1 0) (λ line. line.call) 0 lines
+count_of-calls_of class lines = fold-map (λ n call. n + cond (is_class class (class_of call)) 1 0) (λ line. (call_on line)) 0 lines

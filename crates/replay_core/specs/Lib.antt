@@ -6,7 +6,6 @@ pub mod Outcome
 pub mod Own
 pub mod Report
 pub mod Script
-pub mod ScriptText
 pub mod Soft
 pub mod Status
 pub mod Words
@@ -16,5 +15,9 @@ pub use Rattle.batch_pack.specs.Cutting
 pub use Rattle.gl_front.specs.Driver
 pub use Rattle.gl_front.specs.Rail
 pub use Rattle.gl_front.specs.Maker
+pub use Rattle.script_reader.specs.Grammar
+pub use Rattle.script_reader.specs.Cutting as CuttingText
+pub use Rattle.script_reader.specs.Judged
+pub use Rattle.script_reader.specs.Number
 pub use Rattle.gl_outside.specs.Faults
 pub use Rattle.gl_outside.specs.Moved

@@ -6,7 +6,8 @@ use Rattle.batch_pack.specs.Cutting.{batch_unless_empty, batches_from, count_of}
 use Rattle.gl_front.specs.declared.driver.Reply.{Reply}
 use Rattle.gl_front.specs.declared.counts.Counts.{Counts}
 use Rattle.gl_front.specs.Rail.{Told}
-use Rattle.replay_core.specs.declared.script.Line.{Line}
+use Rattle.replay_core.specs.Script.{call_on}
+use Rattle.script_reader.specs.declared.script.Line.{Line}
 use Rattle.replay_core.specs.declared.lines.Answer.{Answer}
 use Rattle.replay_core.specs.Direct.{told_of}
 
@@ -14,7 +15,7 @@ use Rattle.replay_core.specs.Direct.{told_of}
 abbrev pub Lines : {S : Type 0} → (S → Call → S → Reply → Type 0) → S → List Line → S → List Answer → Type 0
 Lines steps st [] st2 done = (st2 ≡ st) × (done ≡ [])
 Lines {S} steps st (line ∷ lines) st2 done =
-    (mid : S) × (reply : Reply) × (others : List Answer) × steps st line.call mid reply × (done ≡ told_of line reply ++ others) × Lines steps mid lines st2 others
+    (mid : S) × (reply : Reply) × (others : List Answer) × steps st (call_on line) mid reply × (done ≡ told_of line reply ++ others) × Lines steps mid lines st2 others
 
 -- the answers were extended by those with which the lines lead to each state that is stood for, from one that was; own
 pub record RunsLines {S : Type 0} (starts : S → Type 0) (steps : S → Call → S → Reply → Type 0) (lines : List Line) (ends : S → Type 0) (old new : List Answer) : Type 0 where

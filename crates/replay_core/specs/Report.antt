@@ -6,6 +6,8 @@ use Rattle.gl_words.specs.Call.{name_of}
 use Rattle.batch_pack.specs.Cutting.{Tally, tally_of}
 use Rattle.gl_front.specs.declared.counts.Counts.{Counts}
 use Rattle.replay_core.specs.declared.lines.Answer.{Answer}
+use Rattle.replay_core.specs.declared.words.Command.{Command}
+use Rattle.replay_core.specs.declared.words.Command.TheVariants.{Run, Direct}
 use Rattle.replay_core.specs.Script.{Scripted, calls_of}
 use Rattle.replay_core.specs.Direct.{script_answers}
 
@@ -28,3 +30,12 @@ report_text answers tally = codes "glreport 1\n" ++ (flat_map answer_text answer
 -- the report of a script, with batches of so many slots; own
 unfoldable pub report_of : ℕ → Scripted → List ℕ
 report_of size script = report_text (script_answers script) (tally_of size (calls_of script.lines))
+
+-- the report of answers alone, with one image; own
+unfoldable pub direct_text : List Answer → List ℕ
+direct_text answers = codes "glreport 1\n" ++ (flat_map answer_text answers ++ codes "images 1\nend\n")
+
+-- the report of a script by a command: of `direct` without a line of counts; own
+abbrev pub report_for : Command → Scripted → List ℕ
+report_for (Run batch ring rail) script = report_of batch script
+report_for Direct script = direct_text (script_answers script)

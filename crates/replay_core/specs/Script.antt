@@ -1,12 +1,24 @@
--- A script as data: a context and its calls, each with the number of its line; own.
-use Rattle.std.specs.Prelude.{ℕ, List, map}
+-- A script as data for the direct machine: one context, and its calls, each with the number of its line; own.
+use Rattle.std.specs.Prelude.{◌≡◌, ℕ, List, [], ◌∷◌, map}
+use Rattle.replay_core.specs.Own.{AreSides}
 use Rattle.gl_words.specs.declared.call.Call.{Call}
-use Rattle.replay_core.specs.declared.script.Line.{Line}
-use Rattle.replay_core.specs.declared.script.Script.{Script}
+use Rattle.script_reader.specs.declared.script.Act.{Act}
+use Rattle.script_reader.specs.declared.script.Act.TheVariants.{Gl}
+use Rattle.script_reader.specs.declared.script.ContextSpec.{ContextSpec}
+use Rattle.script_reader.specs.declared.script.Line.{Line}
+use Rattle.script_reader.specs.declared.script.Script.{Script}
 
 -- the most lines of a script; own
 abbrev pub most_lines : ℕ
 most_lines = 262144
+
+-- the call of what a line does; own
+abbrev pub call_in : Act → Call
+call_in (Gl call) = call
+
+-- the call of a line; own
+abbrev pub call_on : Line → Call
+call_on line = call_in line.act
 
 -- a script: the sides of its context in pixels, and its lines in order; own
 pub record Scripted : Type 0 where
@@ -14,10 +26,21 @@ pub record Scripted : Type 0 where
   pub height : ℕ
   pub lines : List Line
 
--- a script without where it lies in memory
+-- the first of the contexts; a script has one
+abbrev pub first_context : List ContextSpec → ContextSpec
+first_context [] = record { width = 1; height = 1; memory = 0 }
+first_context (context ∷ contexts) = context
+
+-- a script as its first context and its lines; own
 abbrev pub seen_script : Script → Scripted
-seen_script script = record { width = script.width; height = script.height; lines = script.lines.items }
+seen_script script = record { width = (first_context script.contexts).width; height = (first_context script.contexts).height; lines = script.lines }
 
 -- the calls of lines, in order; own
 abbrev pub calls_of : List Line → List Call
-calls_of lines = map (λ line. line.call) lines
+calls_of lines = map call_on lines
+
+-- the contexts are one, with sides of 1 to 256 pixels; own
+pub record IsOneContext (contexts : List ContextSpec) : Type 0 where
+  pub context : ContextSpec
+  pub only : contexts ≡ context ∷ []
+  pub sides : AreSides context.width context.height

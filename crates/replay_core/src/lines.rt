@@ -3,12 +3,13 @@
 ghost use Rattle.std.specs.Prelude.{◌≡◌, ℕ, ◌+◌, ◌*◌, ◌^◌, ◌<◌, ◌≤◌, length, vec_len, OnOk, OnErr, List, ◌++◌};
 ghost use Rattle.gl_front.specs.Front.{StandsFor};
 ghost use Rattle.replay_core.specs.Direct.{told_of};
-ghost use Rattle.replay_core.specs.Script.{calls_of};
+ghost use Rattle.replay_core.specs.Own.{AreSides};
+ghost use Rattle.replay_core.specs.Script.{IsOneContext, call_on, calls_of, first_context};
 ghost use Rattle.replay_core.specs.Lines.{RunsLines, CountsCalls, TellsCalls, AllLow, AllRiseBy};
 
-use crate::script::Line;
 use gl_front::{Driver, Front, Rail, Reply};
 use gl_words::Call;
+use script_reader::{Act, ContextSpec, Line, Script};
 use std::alloc::AllocError as NoMemory;
 use std::thread::Threads;
 
@@ -40,7 +41,7 @@ pub fn run_lines<T: Threads + Sync, D: Driver, R: Rail<D>>(
     ensures size { R.size front.new.rail ≡ R.size front.old.rail }
 {
     for line in lines {
-        let reply = front.issue(rt, &line.call)?;
+        let reply = front.issue(rt, call_of_line(line))?;
         note(answers, line, &reply)?;
     }
     Ok(())
@@ -54,9 +55,30 @@ fn note(answers: &mut Vec<Answer>, line: &Line, reply: &Reply) -> Result<(), NoM
     if let Reply::One(number) = reply {
         answers.push(Answer {
             line: line.number,
-            call: line.call,
+            call: *call_of_line(line),
             number: *number,
         })?;
     }
     Ok(())
+}
+
+/// The call of a line.
+pub(crate) fn call_of_line(line: &Line) -> &Call
+    ensures { result.now ≡ call_on line.now }
+{
+    match &line.act {
+        Act::Gl(call) => call,
+    }
+}
+
+/// The context of a script with one.
+pub(crate) fn only_context(script: &Script) -> ContextSpec
+    requires { IsOneContext script.now.contexts }
+    ensures context { result ≡ first_context script.now.contexts }
+    ensures sides { AreSides result.width result.height }
+{
+    match script.contexts.as_slice() {
+        [context, ..] => *context,
+        [] => unreachable!(),
+    }
 }

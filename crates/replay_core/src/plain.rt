@@ -7,18 +7,17 @@ ghost use Rattle.batch_pack.specs.Batch.{slots_used};
 ghost use Rattle.batch_pack.specs.Class.{class_of};
 ghost use Rattle.batch_pack.specs.Spelling.{slots_of};
 ghost use Rattle.batch_pack.specs.Cutting.{batch_unless_empty, batches_from, ended_at, ended_by, is_class, open_after, open_by, tally_of};
-ghost use Rattle.replay_core.specs.Own.{AreSides};
-ghost use Rattle.replay_core.specs.Script.{calls_of, seen_script, most_lines};
+ghost use Rattle.replay_core.specs.Script.{IsOneContext, call_on, calls_of, seen_script, most_lines};
 ghost use Rattle.replay_core.specs.Direct.{final_own, script_answers, told_of};
 ghost use Rattle.replay_core.specs.Report.{counted, report_of};
 
-use crate::lines::Answer;
-use crate::script::{Line, Script};
+use crate::lines::{Answer, call_of_line, only_context};
 use crate::soft::Soft;
 use crate::text::{Text, report};
 use batch_pack::{Class, call_class, sends_batch};
 use gl_front::{Counts, Reply};
 use gl_words::{Call, arg_count};
+use script_reader::{Line, Script};
 use std::alloc::{AllocError as NoMemory, Global};
 
 /// What the direct machine leaves: the answers in order, and the context at the end; own.
@@ -31,15 +30,16 @@ pub struct DirectRun {
 /// Carries each call of a script out as its line is read; own.
 #[tactic(auto, unfolding(crate::specs::Direct::final_own, crate::specs::Direct::script_answers))]
 pub fn direct(alloc: Global, script: &Script) -> Result<DirectRun, NoMemory>
-    requires { AreSides script.now.width script.now.height }
+    requires { IsOneContext script.now.contexts }
     ensures answers { IfOk result (λ done. done.answers.items ≡ script_answers (seen_script script.now)) }
     ensures soft { IfOk result (λ done. done.soft ≡ final_own (seen_script script.now)) }
 {
-    let mut soft = Soft::new(alloc, script.width, script.height)?;
+    let context = only_context(script);
+    let mut soft = Soft::new(alloc, context.width, context.height)?;
     let mut answers = Vec::new(alloc);
     let lines = script.lines.as_slice();
     for line in lines {
-        let reply = soft.carry_out(&line.call);
+        let reply = soft.carry_out(call_of_line(line));
         tell(&mut answers, line, reply)?;
     }
     Ok(DirectRun { answers, soft })
@@ -54,7 +54,7 @@ fn tell(answers: &mut Vec<Answer>, line: &Line, reply: Reply) -> Result<(), NoMe
         Reply::One(number) => {
             let answer = Answer {
                 line: line.number,
-                call: line.call,
+                call: *call_of_line(line),
                 number,
             };
             answers.push(answer)?;
@@ -66,8 +66,8 @@ fn tell(answers: &mut Vec<Answer>, line: &Line, reply: Reply) -> Result<(), NoMe
 /// The report of a script, with batches of so many slots; own.
 #[tactic(auto, unfolding(crate::specs::Report::report_of))]
 pub fn plain_report(alloc: Global, size: u32, script: &Script) -> Result<Text, NoMemory>
-    requires sides { AreSides script.now.width script.now.height }
-    requires lines { length script.now.lines.items ≤ most_lines }
+    requires contexts { IsOneContext script.now.contexts }
+    requires lines { length script.now.lines ≤ most_lines }
     ensures { IfOk result (λ text. text ≡ report_of size (seen_script script.now)) }
 {
     let done = direct(alloc, script)?;
@@ -92,11 +92,11 @@ pub fn plain_tally(size: u32, lines: &[Line]) -> Counts
 
 /// How many lines have a call of a class.
 fn count(class: Class, lines: &[Line]) -> u64
-    ensures { result ≡ count_by (λ line. is_class class (class_of line.call)) lines.now }
+    ensures { result ≡ count_by (λ line. is_class class (class_of (call_on line))) lines.now }
 {
     lines
         .iter()
-        .filter(|line| same_class(class, call_class(&line.call)))
+        .filter(|line| same_class(class, call_class(call_of_line(line))))
         .count() as u64
 }
 
@@ -127,7 +127,7 @@ fn batches(size: u64, lines: &[Line]) -> u64
     let mut ended = 0;
     let mut used = 0;
     for line in lines {
-        let (more, left) = cut(size, used, &line.call);
+        let (more, left) = cut(size, used, call_of_line(line));
         ended += more;
         used = left;
     }

@@ -1,27 +1,24 @@
 //! Running a script: a driver, a rail and a front are made, the lines are run, and the driver comes back.
 
 ghost use Rattle.std.specs.Prelude.{◌≡◌, ◌≤◌, length, IfOk};
-ghost use Rattle.replay_core.specs.Own.{AreSides};
-ghost use Rattle.replay_core.specs.Script.{seen_script, most_lines};
-ghost use Rattle.replay_core.specs.Direct.{final_own};
+ghost use Rattle.batch_pack.specs.Batch.{IsBatchSize};
+ghost use Rattle.gl_front.specs.Maker.{IsRingLength};
+ghost use Rattle.replay_core.specs.Script.{IsOneContext, seen_script, most_lines};
+ghost use Rattle.replay_core.specs.Direct.{final_own, script_answers};
 ghost use Rattle.replay_core.specs.Images.{frame_of};
-ghost use Rattle.replay_core.specs.Report.{report_of};
-ghost use Rattle.replay_core.specs.Outcome.{batch_size};
+ghost use Rattle.replay_core.specs.Report.{direct_text, report_for, report_of};
+ghost use Rattle.replay_core.specs.Words.{IsWithinLimits};
 
 use crate::image::ppm;
-use crate::lines::{Answer, run_lines};
-use crate::script::Script;
+use crate::lines::{only_context, run_lines};
+use crate::plain::direct;
 use crate::soft::Soft;
-use crate::text::{Text, report};
+use crate::text::{Text, direct_report, report};
+use crate::words::Command;
 use gl_front::{Front, RailMaker};
+use script_reader::Script;
 use std::alloc::{AllocError as NoMemory, Global};
 use std::thread::Threads;
-
-/// Slots of a batch: 1024, 8 KiB.
-const SLOTS: u32 = 1024;
-
-/// Batches of a ring. Without a ring no byte depends on it.
-const RING: u32 = 8;
 
 /// What a run leaves to be put and written.
 #[derive(Drop)]
@@ -30,20 +27,63 @@ pub struct Output {
     pub report: Text,
 }
 
-/// Runs a script over a rail of this maker.
-pub fn run_script<T: Threads + Sync, R: RailMaker<Soft>>(
+/// Carries out a command on a script.
+pub fn run_command<T: Threads + Sync, R: RailMaker<Soft>>(
     rt: &T,
     alloc: Global,
     rails: &mut R,
+    command: Command,
     script: &Script,
 ) -> Result<Output, NoMemory>
-    requires sides { AreSides script.now.width script.now.height }
-    requires lines { length script.now.lines.items ≤ most_lines }
+    requires command { IsWithinLimits command }
+    requires contexts { IsOneContext script.now.contexts }
+    requires lines { length script.now.lines ≤ most_lines }
     ensures image { IfOk result (λ output. output.image.items ≡ frame_of (final_own (seen_script script.now))) }
-    ensures report { IfOk result (λ output. output.report ≡ report_of batch_size (seen_script script.now)) }
+    ensures report { IfOk result (λ output. output.report ≡ report_for command (seen_script script.now)) }
 {
-    let driver = Soft::new(alloc, script.width, script.height)?;
-    let rail = match rails.launch(alloc, 0, driver, SLOTS, RING) {
+    match command {
+        Command::Run { batch, ring, .. } => run_script(rt, alloc, rails, batch, ring, script),
+        Command::Direct => direct_script(alloc, script),
+    }
+}
+
+/// Carries out each call of a script as its line is read.
+fn direct_script(alloc: Global, script: &Script) -> Result<Output, NoMemory>
+    requires contexts { IsOneContext script.now.contexts }
+    ensures image { IfOk result (λ output. output.image.items ≡ frame_of (final_own (seen_script script.now))) }
+    ensures report { IfOk result (λ output. output.report ≡ direct_text (script_answers (seen_script script.now))) }
+{
+    let done = direct(alloc, script)?;
+    Ok(Output {
+        image: ppm(
+            alloc,
+            done.soft.width(),
+            done.soft.height(),
+            done.soft.pixels(),
+        )?,
+        report: direct_report(alloc, &done.answers)?,
+    })
+}
+
+/// Runs a script over a rail of this maker.
+fn run_script<T: Threads + Sync, R: RailMaker<Soft>>(
+    rt: &T,
+    alloc: Global,
+    rails: &mut R,
+    batch: u32,
+    ring: u32,
+    script: &Script,
+) -> Result<Output, NoMemory>
+    requires batch { IsBatchSize batch }
+    requires ring { IsRingLength ring }
+    requires contexts { IsOneContext script.now.contexts }
+    requires lines { length script.now.lines ≤ most_lines }
+    ensures image { IfOk result (λ output. output.image.items ≡ frame_of (final_own (seen_script script.now))) }
+    ensures report { IfOk result (λ output. output.report ≡ report_of batch (seen_script script.now)) }
+{
+    let context = only_context(script);
+    let driver = Soft::new(alloc, context.width, context.height)?;
+    let rail = match rails.launch(alloc, 0, driver, batch, ring) {
         Ok(rail) => rail,
         Err((_driver, refusal)) => return Err(refusal),
     };
@@ -52,7 +92,7 @@ pub fn run_script<T: Threads + Sync, R: RailMaker<Soft>>(
         Err((_rail, refusal)) => return Err(refusal),
     };
     let mut answers = Vec::new(alloc);
-    run_lines(rt, &mut front, &script.lines, &mut answers)?;
+    run_lines(rt, &mut front, script.lines.as_slice(), &mut answers)?;
     front.flush(rt);
     let counts = front.counts();
     let driver = rails.close(0, front.into_parts())?;

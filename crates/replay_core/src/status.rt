@@ -1,24 +1,10 @@
 //! How a run ends. What a program prints and which number it ends with is told here, and nowhere else.
 
 ghost use Rattle.std.specs.Prelude.{◌≡◌, Some};
-ghost use Rattle.replay_core.specs.Status.{exit_code_of, status_text};
+ghost use Rattle.replay_core.specs.Status.{exit_code_of, fault_text, limit_text, status_text};
 
+use script_reader::{Limit, ScriptError, ScriptFault};
 use std::fmt;
-
-/// Why bytes are no script; own.
-#[derive(Clone, Copy, Debug, PartialEq, Eq)]
-pub enum ScriptFault {
-    /// The bytes are outside the form that is read.
-    NotBuilt,
-}
-
-/// A script that was refused; own.
-#[derive(Clone, Copy, Debug, PartialEq, Eq)]
-pub struct ScriptError {
-    /// The number of the faulty line, counted from 1; 0 where no line is named.
-    pub line: u32,
-    pub fault: ScriptFault,
-}
 
 /// How a run ends; own.
 #[derive(Clone, Copy, Debug, PartialEq, Eq)]
@@ -51,16 +37,34 @@ pub fn exit_code(status: &Status) -> u8
     }
 }
 
-impl fmt::Display for ScriptFault {
-    ghost use Rattle.std.specs.Prelude.{Some};
-    ghost use Rattle.replay_core.specs.Status.{fault_text};
+/// The name of a fault. The limit that is passed stands behind it.
+fn fault_name(fault: &ScriptFault) -> &'static str
+    ensures { result.now ≡ fault_text fault.now }
+{
+    match fault {
+        ScriptFault::NotText => "NotText",
+        ScriptFault::BadHeader => "BadHeader",
+        ScriptFault::UnknownWord => "UnknownWord",
+        ScriptFault::WrongCount => "WrongCount",
+        ScriptFault::BadNumber => "BadNumber",
+        ScriptFault::OutOfRange => "OutOfRange",
+        ScriptFault::NoSuchContext => "NoSuchContext",
+        ScriptFault::TooMany(limit) => limit_name(limit),
+        ScriptFault::NoEnd => "NoEnd",
+        ScriptFault::AfterEnd => "AfterEnd",
+    }
+}
 
-    ghost output = { λ fault. Some (fault_text fault) };
-
-    fn fmt<W: fmt::Write>(&self, f: &mut fmt::Formatter<W>) -> fmt::Result {
-        match self {
-            ScriptFault::NotBuilt => write!(f, "NotBuilt"),
-        }
+/// The name of a limit that is passed.
+fn limit_name(limit: &Limit) -> &'static str
+    ensures { result.now ≡ limit_text limit.now }
+{
+    match limit {
+        Limit::Contexts => "TooMany Contexts",
+        Limit::Lines => "TooMany Lines",
+        Limit::ImageBytes => "TooMany ImageBytes",
+        Limit::UploadBytes => "TooMany UploadBytes",
+        Limit::SourceBytes => "TooMany SourceBytes",
     }
 }
 
@@ -78,7 +82,7 @@ impl fmt::Display for Status {
             Status::ReadFault => write!(f, "glreplay: read fault"),
             Status::BadScript(error) => {
                 let line = error.line;
-                let fault = error.fault;
+                let fault = fault_name(&error.fault);
                 write!(f, "glreplay: line {line}: {fault}")
             }
             Status::ShelfFault { stored } => {

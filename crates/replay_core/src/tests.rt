@@ -1,5 +1,5 @@
 //! What no clause says: that the calls succeed where there is memory enough, and the bytes that other programs give.
 
 mod parts;
-mod reading;
 mod runs;
+mod words;

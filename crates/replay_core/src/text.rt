@@ -4,7 +4,7 @@ ghost use Rattle.std.specs.Prelude.{◌≡◌, List, [], ◌∷◌, ◌++◌, co
 ghost use Rattle.std.specs.List.{flat_map};
 ghost use Rattle.gl_front.specs.declared.counts.Counts.{Counts};
 ghost use Rattle.replay_core.specs.declared.lines.Answer.{Answer};
-ghost use Rattle.replay_core.specs.Report.{answer_text, counted, counts_text, report_text};
+ghost use Rattle.replay_core.specs.Report.{answer_text, counted, counts_text, direct_text, report_text};
 
 use crate::lines::Answer;
 use gl_front::Counts;
@@ -112,6 +112,18 @@ pub fn report(alloc: Global, answers: &[Answer], counts: &Counts) -> Result<Text
     text.plain("glreport 1")?;
     text.answers(answers)?;
     text.counts(counts)?;
+    text.plain("images 1")?;
+    text.plain("end")?;
+    Ok(text)
+}
+
+/// The report of answers, without counts, with one image; own.
+pub fn direct_report(alloc: Global, answers: &[Answer]) -> Result<Text, NoMemory>
+    ensures { IfOk result (λ text. text ≡ direct_text answers.now) }
+{
+    let mut text = Text::new(alloc);
+    text.plain("glreport 1")?;
+    text.answers(answers)?;
     text.plain("images 1")?;
     text.plain("end")?;
     Ok(text)

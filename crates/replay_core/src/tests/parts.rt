@@ -1,114 +1,48 @@
 //! What no clause says: that the calls succeed, and the bytes that another program gives.
 
-use crate::{
-    Line, Script, ScriptError, ScriptFault, Soft, Status, direct, exit_code, plain_report, ppm,
-};
+use crate::{Soft, Status, direct, exit_code, plain_report, ppm};
 use gl_front::{Driver, Reply};
 use gl_words::Call;
-use std::alloc::{AllocError, Global};
+use script_reader::{Limit, ScriptError, ScriptFault, read};
+use std::alloc::AllocError;
 use std::test::Fail;
 use std::thread::Threads;
-
-/// A script whose calls stand from line 3 on.
-fn script(alloc: Global, width: u32, height: u32, calls: &[Call]) -> Result<Script, AllocError> {
-    let mut lines = Vec::new(alloc);
-    let mut number = 2u32;
-    for call in calls {
-        number = number.saturating_add(1);
-        let line = Line {
-            number,
-            call: *call,
-        };
-        lines.push(line)?;
-    }
-    Ok(Script {
-        width,
-        height,
-        lines,
-    })
-}
-
-const RED: Call = Call::ClearColorx {
-    red: 65536,
-    green: 0,
-    blue: 0,
-    alpha: 65536,
-};
-
-const MIXED: Call = Call::ClearColorx {
-    red: -5,
-    green: 32768,
-    blue: 70000,
-    alpha: 65535,
-};
-
-const COLOUR: Call = Call::Clear { mask: 0x4000 };
 
 // The bytes are those of a plain program by other hands.
 #[test]
 fn a_script_gives_its_report_and_its_image(rt: HostRuntime) -> Result<(), Fail> {
     let rows = [
         (
-            (4, 4, 1024),
-            [RED, COLOUR].as_slice(),
+            1024,
+            "glscript 1\ncontext 0 4 4 0\n0 ClearColorx 65536 0 0 65536\n0 Clear COLOR_BUFFER_BIT\nend\n",
             "glreport 1\ncounts 0 2 0 0 1\nimages 1\nend\n",
             b"P6\n4 4\n255\n\xff\0\0\xff\0\0\xff\0\0\xff\0\0\xff\0\0\xff\0\0\xff\0\0\xff\0\0\xff\0\0\xff\0\0\xff\0\0\xff\0\0\xff\0\0\xff\0\0\xff\0\0\xff\0\0".as_slice(),
         ),
         (
-            (1, 1, 1024),
-            [].as_slice(),
+            1024,
+            "glscript 1\ncontext 0 1 1 0\nend\n",
             "glreport 1\ncounts 0 0 0 0 0\nimages 1\nend\n",
             b"P6\n1 1\n255\n\0\0\0".as_slice(),
         ),
         (
-            (2, 3, 1024),
-            [
-                Call::Clear { mask: 1 },
-                COLOUR,
-                Call::GetError,
-                MIXED,
-                COLOUR,
-                Call::Clear { mask: 0x0100 },
-                Call::Flush,
-                Call::GetError,
-                Call::Finish,
-                Call::Clear { mask: 0xC000 },
-                Call::Clear { mask: 0x7FFF_FFFF },
-                Call::GetError,
-                Call::GetError,
-            ]
-            .as_slice(),
+            1024,
+            "glscript 1\ncontext 0 2 3 0\n0 Clear 1\n0 Clear 0x4000\n0 GetError\n0 ClearColorx -5 32768 70000 65535\n0 Clear 0x4000\n0 Clear 0x100\n0 Flush\n0 GetError\n0 Finish\n0 Clear 0xC000\n0 Clear 0x7FFFFFFF\n0 GetError\n0 GetError\nend\n",
             "glreport 1\n5 0 GetError 1281\n10 0 GetError 0\n14 0 GetError 1281\n15 0 GetError 0\ncounts 0 8 5 0 3\nimages 1\nend\n",
             b"P6\n2 3\n255\n\0\x80\xff\0\x80\xff\0\x80\xff\0\x80\xff\0\x80\xff\0\x80\xff".as_slice(),
         ),
         (
-            (1, 1, 16),
-            [
-                RED,
-                RED,
-                RED,
-                Call::Flush,
-                Call::Flush,
-                RED,
-                Call::Finish,
-                RED,
-                RED,
-                RED,
-                COLOUR,
-            ]
-            .as_slice(),
+            16,
+            "glscript 1\ncontext 0 1 1 0\n0 ClearColorx 65536 0 0 0\n0 ClearColorx 65536 0 0 0\n0 ClearColorx 65536 0 0 0\n0 Flush\n0 Flush\n0 ClearColorx 65536 0 0 0\n0 Finish\n0 ClearColorx 65536 0 0 0\n0 ClearColorx 65536 0 0 0\n0 ClearColorx 65536 0 0 0\n0 Clear 0x4000\nend\n",
             "glreport 1\ncounts 0 10 1 0 5\nimages 1\nend\n",
             b"P6\n1 1\n255\n\xff\0\0".as_slice(),
         ),
     ];
-    for (form, calls, text, bytes) in &rows {
-        let (width, height, size) = *form;
-        let script = script(rt.alloc(), width, height, calls)?;
-        assert!(rt; 1 <= script.width && script.width <= 256);
-        assert!(rt; 1 <= script.height && script.height <= 256);
-        assert!(rt; script.lines.len() <= 262144);
-        let report = plain_report(rt.alloc(), size, &script)?;
-        assert_eq!(rt; report.bytes(), text.as_bytes());
+    for (size, text, report, bytes) in &rows {
+        let Ok(script) = read(rt.alloc(), text.as_bytes()) else {
+            panic!(rt; "the script is refused")
+        };
+        let told = plain_report(rt.alloc(), *size, &script)?;
+        assert_eq!(rt; told.bytes(), report.as_bytes());
         let soft = direct(rt.alloc(), &script)?.soft;
         let image = ppm(rt.alloc(), soft.width(), soft.height(), soft.pixels())?;
         assert_eq!(rt; image.as_slice(), *bytes);
@@ -131,13 +65,22 @@ fn the_rows_of_an_image_stand_from_the_top(rt: HostRuntime) -> Result<(), Fail> 
 fn each_status_has_its_number_and_its_text(rt: HostRuntime) -> Result<(), Fail> {
     let error = ScriptError {
         line: 7,
-        fault: ScriptFault::NotBuilt,
+        fault: ScriptFault::BadNumber,
+    };
+    let full = ScriptError {
+        line: 262145,
+        fault: ScriptFault::TooMany(Limit::Lines),
     };
     let rows = [
         (Status::Ok, 0, "glreplay: done"),
         (Status::BadWords, 2, "glreplay: bad words"),
         (Status::ReadFault, 3, "glreplay: read fault"),
-        (Status::BadScript(error), 4, "glreplay: line 7: NotBuilt"),
+        (Status::BadScript(error), 4, "glreplay: line 7: BadNumber"),
+        (
+            Status::BadScript(full),
+            4,
+            "glreplay: line 262145: TooMany Lines",
+        ),
         (
             Status::ShelfFault { stored: 12 },
             5,

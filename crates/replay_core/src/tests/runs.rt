@@ -1,8 +1,9 @@
 //! Whole runs of the top call over objects in memory.
 
-use crate::{ScriptError, ScriptFault, Status, rail_of, replay_alone};
+use crate::{Status, rail_of, replay_alone};
 use gl_front::{InlineMaker, RailKind};
 use gl_outside::{MemoryShelf, MemorySink, MemorySource};
+use script_reader::{ScriptError, ScriptFault};
 use std::alloc::{AllocError, Global};
 use std::test::Fail;
 use std::thread::Threads;
@@ -16,11 +17,6 @@ const RED_REPORT: &str = "glreport 1\ncounts 0 2 0 0 1\nimages 1\nend\n";
 
 const RED_IMAGE: &[u8] =
     b"P6\n4 4\n255\n\xff\0\0\xff\0\0\xff\0\0\xff\0\0\xff\0\0\xff\0\0\xff\0\0\xff\0\0\xff\0\0\xff\0\0\xff\0\0\xff\0\0\xff\0\0\xff\0\0\xff\0\0\xff\0\0";
-
-const NOT_BUILT: Status = Status::BadScript(ScriptError {
-    line: 0,
-    fault: ScriptFault::NotBuilt,
-});
 
 /// Which calls of the source, the shelf and the sink fail, and how many bytes a call moves.
 #[derive(Drop)]
@@ -149,51 +145,59 @@ fn bytes_may_move_one_or_seven_at_a_time(rt: HostRuntime) -> Result<(), Fail> {
     Ok(())
 }
 
-// Each row leaves the form in one way; the last is the first with one byte more than a script may have.
+// The lines and the faults are those of a plain program by other hands.
 #[test]
 fn what_leaves_the_form_is_refused_and_nothing_put(rt: HostRuntime) -> Result<(), Fail> {
     let rows = [
-        "",
-        "glscript 1\ncontext 0 4 4 0\nend",
-        "glscript 1\n",
-        "glscript 2\ncontext 0 4 4 0\nend\n",
-        "glscript  1\ncontext 0 4 4 0\nend\n",
-        "glscript 1\r\ncontext 0 4 4 0\nend\n",
-        "# a comment\nglscript 1\ncontext 0 4 4 0\nend\n",
-        "glscript 1\ncontext 1 4 4 0\nend\n",
-        "glscript 1\ncontext 00 4 4 0\nend\n",
-        "glscript 1\ncontext 0 0 4 0\nend\n",
-        "glscript 1\ncontext 0 4 257 0\nend\n",
-        "glscript 1\ncontext 0 4 4 1\nend\n",
-        "glscript 1\ncontext 0 4 4\nend\n",
-        "glscript 1\ncontext 0 4 4 0\ncontext 1 4 4 0\nend\n",
-        "glscript 1\ncontext 0 4 4 0\n",
-        "glscript 1\ncontext 0 4 4 0\nend\nend\n",
-        "glscript 1\ncontext 0 4 4 0\nend\n0 Flush\n",
-        "glscript 1\ncontext 0 4 4 0\n\nend\n",
-        "glscript 1\ncontext 0 4 4 0\n1 Flush\nend\n",
-        "glscript 1\ncontext 0 4 4 0\n0 flush\nend\n",
-        "glscript 1\ncontext 0 4 4 0\n0 LoadIdentity\nend\n",
-        "glscript 1\ncontext 0 4 4 0\n0\nend\n",
-        "glscript 1\ncontext 0 4 4 0\n0 Flush \nend\n",
-        "glscript 1\ncontext 0 4 4 0\n 0 Flush\nend\n",
-        "glscript 1\ncontext 0 4 4 0\n0  Flush\nend\n",
-        "glscript 1\ncontext 0 4 4 0\n0 Flush 0\nend\n",
-        "glscript 1\ncontext 0 4 4 0\n0 Clear\nend\n",
-        "glscript 1\ncontext 0 4 4 0\n0 Clear 1 1\nend\n",
-        "glscript 1\ncontext 0 4 4 0\n0 Clear -1\nend\n",
-        "glscript 1\ncontext 0 4 4 0\n0 Clear 4294967296\nend\n",
-        "glscript 1\ncontext 0 4 4 0\n0 Clear 00000000001\nend\n",
-        "glscript 1\ncontext 0 4 4 0\n0 Clear 0x4000\nend\n",
-        "glscript 1\ncontext 0 4 4 0\n0 Clear 5x\nend\n",
-        "glscript 1\ncontext 0 4 4 0\n0 Clear -\nend\n",
-        "glscript 1\ncontext 0 4 4 0\n0 Clear DEPTH_BUFFER_BIT\nend\n",
-        "glscript 1\ncontext 0 4 4 0\n0 ClearColorx 0 0 0\nend\n",
-        "glscript 1\ncontext 0 4 4 0\n0 ClearColorx 2147483648 0 0 0\nend\n",
-        "glscript 1\ncontext 0 4 4 0\n0 ClearColorx 0 -2147483649 0 0\nend\n",
-        "glscript 1\ncontext 0 4 4 0\n0 ClearColorx 0 0 COLOR_BUFFER_BIT 0\nend\n",
+        ("", 1, ScriptFault::NoEnd),
+        (
+            "glscript 2\ncontext 0 4 4 0\nend\n",
+            1,
+            ScriptFault::BadHeader,
+        ),
+        (
+            "glscript 1\ncontext 0 4 257 0\nend\n",
+            2,
+            ScriptFault::OutOfRange,
+        ),
+        (
+            "glscript 1\ncontext 0 4 4 0\n0 Fl\x01sh\nend\n",
+            3,
+            ScriptFault::NotText,
+        ),
+        (
+            "glscript 1\ncontext 0 4 4 0\n0 flush\nend\n",
+            3,
+            ScriptFault::UnknownWord,
+        ),
+        (
+            "glscript 1\ncontext 0 4 4 0\n0 Clear\nend\n",
+            3,
+            ScriptFault::WrongCount,
+        ),
+        (
+            "glscript 1\ncontext 0 4 4 0\n0 Clear 00000000001\nend\n",
+            3,
+            ScriptFault::BadNumber,
+        ),
+        (
+            "glscript 1\ncontext 0 4 4 0\n0 Clear 4294967296\nend\n",
+            3,
+            ScriptFault::OutOfRange,
+        ),
+        (
+            "glscript 1\ncontext 0 4 4 0\n1 Flush\nend\n",
+            3,
+            ScriptFault::NoSuchContext,
+        ),
+        ("glscript 1\ncontext 0 4 4 0\n", 3, ScriptFault::NoEnd),
+        (
+            "glscript 1\ncontext 0 4 4 0\nend\n0 Flush\n",
+            4,
+            ScriptFault::AfterEnd,
+        ),
     ];
-    for text in &rows {
+    for (text, line, fault) in &rows {
         let left = replay(
             &rt,
             rt.alloc(),
@@ -201,10 +205,35 @@ fn what_leaves_the_form_is_refused_and_nothing_put(rt: HostRuntime) -> Result<()
             text.as_bytes(),
             Outside::sure(rt.alloc(), 4096),
         )?;
-        assert_eq!(rt; left.status, NOT_BUILT);
+        let error = ScriptError {
+            line: *line,
+            fault: *fault,
+        };
+        assert_eq!(rt; left.status, Status::BadScript(error));
         assert!(rt; left.shelf.is_empty());
         assert!(rt; left.sink.bytes().is_empty());
     }
+    Ok(())
+}
+
+// The report is that of a plain program by other hands.
+#[test]
+fn the_direct_machine_tells_no_counts(rt: HostRuntime) -> Result<(), Fail> {
+    let text = "glscript 1\ncontext 0 1 1 0\n0 Clear 1\n0 GetError\nend\n";
+    let left = replay(
+        &rt,
+        rt.alloc(),
+        &["direct"],
+        text.as_bytes(),
+        Outside::sure(rt.alloc(), 4096),
+    )?;
+    assert_eq!(rt; left.status, Status::Ok);
+    assert_eq!(rt;
+        left.sink.bytes(),
+        b"glreport 1\n4 0 GetError 1281\nimages 1\nend\n".as_slice()
+    );
+    assert_eq!(rt; left.shelf.len(), 1);
+    assert_eq!(rt; left.shelf.bytes_at(0), b"P6\n1 1\n255\n\0\0\0".as_slice());
     Ok(())
 }
 
@@ -222,8 +251,9 @@ fn is_refused<T: Threads + Sync>(
 #[test]
 fn other_words_are_refused_and_nothing_read(rt: HostRuntime) -> Result<(), Fail> {
     assert!(rt; is_refused(&rt, rt.alloc(), &[])?);
-    assert!(rt; is_refused(&rt, rt.alloc(), &["run"])?);
-    assert!(rt; is_refused(&rt, rt.alloc(), &["direct"])?);
+    assert!(rt; is_refused(&rt, rt.alloc(), &["direct", "inline"])?);
+    assert!(rt; is_refused(&rt, rt.alloc(), &["run", "--batch", "15"])?);
+    assert!(rt; is_refused(&rt, rt.alloc(), &["run", "--ring", "65"])?);
     assert!(rt; is_refused(&rt, rt.alloc(), &["run", "--rail"])?);
     assert!(rt; is_refused(&rt, rt.alloc(), &["run", "--rail", "epoch"])?);
     assert!(rt; is_refused(&rt, rt.alloc(), &["run", "--rail", "inline", "inline"])?);

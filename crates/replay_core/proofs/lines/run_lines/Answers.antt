@@ -1,12 +1,13 @@
-use Rattle.std.proofs.Common.{◌≡◌, ℕ, ◌<◌, List, length, get_or, drop, take, subst, sym, ◌∙◌, arith}
+use Rattle.std.proofs.Common.{◌≡◌, ℕ, ◌+◌, ◌<◌, List, ◌∷◌, length, get_or, drop, take, ap, subst, sym, ◌∙◌, arith}
 use Rattle.std.proofs.lemmas.List.{take_more, drop_all}
 use Rattle.gl_words.specs.declared.call.Call.{Call}
 use Rattle.gl_words.specs.declared.call.Call.TheVariants.{Clear}
-use Rattle.replay_core.specs.declared.script.Line.{Line}
+use Rattle.script_reader.specs.declared.script.Act.TheVariants.{Gl}
+use Rattle.script_reader.specs.declared.script.Line.{Line}
 use Rattle.replay_core.specs.Script.{calls_of}
 use Rattle.gl_front.specs.Front.{StandsFor}
 use Rattle.replay_core.specs.Lines.{RunsLines}
-use Rattle.replay_core.proofs.RunLemmas.{RunsLines-push, calls_of-drop}
+use Rattle.replay_core.proofs.RunLemmas.{RunsLines-push, carries_same, calls_of-drop}
 use Rattle.replay_core.proofs.CountLemmas.{CountsUpTo, TellsUpTo, counts_next, tells_next, counts_end, tells_end}
 use Rattle.replay_core.proofs.lines.run_lines.Goals as goal
 
@@ -14,16 +15,18 @@ pub loop-line-preserved : goal.loop-line-preserved
 loop-line-preserved g c =
     let lines = c.args.lines.now in
     let i = c.loop-line.line-index in
-    let d : Line = record { number = 0; call = Clear 0 } in
+    let d : Line = record { number = 0; context = 0; act = Gl (Clear 0) } in
     let inside : i < length lines = c.loop-line-test.true in
-    let next = calls_of-drop lines i d inside in
+    let same = c.call_of_line.ensures in
+    let next = calls_of-drop lines i d inside ∙ ap (λ k. k ∷ calls_of (drop (i + 1) lines)) (sym same) in
     let so_far = c.loop-line.invariant in
     let issued = c.in_ok-reply.ensures in
+    let mid = StandsFor g.R.RailState.stands g.D.Machine.steps c.loop-line.front in
     let starts = StandsFor g.R.RailState.stands g.D.Machine.steps c.args.front.now in
     let ends = StandsFor g.R.RailState.stands g.D.Machine.steps c.issue.new.self in
     let Runs : List Line → Type 0 = λ ls. RunsLines starts g.D.Machine.steps ls ends c.args.answers.now.items c.note.new.answers.items in
     record {
-      runs = subst Runs (sym (take_more lines i d inside)) (RunsLines-push starts _ ends g.D.Machine.steps (take i lines) (get_or lines i d) c.in_ok-reply.reply c.args.answers.now.items c.loop-line.answers.items c.note.new.answers.items so_far.runs issued.ok c.in_ok-note.ensures.ok);
+      runs = subst Runs (sym (take_more lines i d inside)) (RunsLines-push starts _ ends g.D.Machine.steps (take i lines) (get_or lines i d) c.in_ok-reply.reply c.args.answers.now.items c.loop-line.answers.items c.note.new.answers.items so_far.runs (carries_same mid ends g.D.Machine.steps _ _ c.in_ok-reply.reply same issued.ok) c.in_ok-note.ensures.ok);
       counted = counts_next _ _ _ _ _ _ _ _ _ _ _ _ so_far.same_size next issued.open_batch so_far.counted issued.counts;
       told = tells_next _ _ _ _ _ _ _ _ _ _ _ _ so_far.same_size next issued.open_batch so_far.told issued.journal;
       rises = record {

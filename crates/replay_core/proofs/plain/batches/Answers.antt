@@ -1,9 +1,11 @@
 use Rattle.std.proofs.Common.{◌≡◌, [], length, get_or, drop, ap, sym, ◌∙◌, arith}
 use Rattle.std.proofs.lemmas.List.{at_drop_all}
 use Rattle.gl_words.specs.declared.call.Call.TheVariants.{Clear}
-use Rattle.batch_pack.specs.Cutting.{batch_unless_empty, batches_from, open_after}
-use Rattle.replay_core.specs.declared.script.Line.{Line}
-use Rattle.replay_core.specs.Script.{calls_of}
+use Rattle.batch_pack.specs.Batch.{slots_used}
+use Rattle.batch_pack.specs.Cutting.{batch_unless_empty, batches_from, ended_at, open_after}
+use Rattle.script_reader.specs.declared.script.Act.TheVariants.{Gl}
+use Rattle.script_reader.specs.declared.script.Line.{Line}
+use Rattle.replay_core.specs.Script.{call_on, calls_of}
 use Rattle.replay_core.proofs.Tallies.{batches_from-drop, batches_from-none, slots_used-none}
 use Rattle.replay_core.proofs.plain.batches.Goals as goal
 
@@ -16,14 +18,16 @@ loop-line-preserved c =
     let size = c.args.size in
     let lines = c.args.lines.now in
     let at = c.loop-line.line-index in
-    let line : Line = record { number = 0; call = Clear 0 } in
-    let call = (get_or lines at line).call in
+    let line : Line = record { number = 0; context = 0; act = Gl (Clear 0) } in
+    let call = (call_on (get_or lines at line)) in
     let batch = inv.2.0 in
     let next = batches_from-drop size batch lines at line (omega arith) in
-    let ended = c.cut-more.ensures.ended batch inv.2.1 in (
+    let same = c.call_of_line.ensures in
+    let ended = c.cut-more.ensures.ended batch inv.2.1 ∙ ap (λ k. length (ended_at size batch k)) same in
+    let used = c.cut-more.ensures.used batch inv.2.1 ∙ ap (λ k. slots_used (open_after size batch k)) same in (
       omega (arith, inv.0, c.cut-more.ensures.small),
       omega (arith, inv.1, c.cut-more.ensures.few),
-      (open_after size batch call, sym (c.cut-more.ensures.used batch inv.2.1), omega (arith, next, ended, inv.2.2)),
+      (open_after size batch call, sym used, omega (arith, next, ended, inv.2.2)),
     )
 
 pub returns : goal.returns

@@ -1,0 +1,12 @@
+pub mod Cutting
+pub mod Grammar
+pub mod Heard
+pub mod Judged
+pub mod Limits
+pub mod Number
+pub use Rattle.gl_words.specs.Call
+pub use Rattle.gl_words.specs.CallOf
+pub use Rattle.gl_words.specs.Kind
+pub use Rattle.gl_words.specs.Lookup
+pub use Rattle.gl_words.specs.Names
+pub use Rattle.gl_words.specs.Shape

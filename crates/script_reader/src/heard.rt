@@ -1,0 +1,141 @@
+//! What the lines so far have said, as far as it is kept.
+
+ghost use Rattle.std.specs.Prelude.{◌≡◌, ℕ, ◌+◌, ◌^◌, ◌<◌, ◌≤◌, List, [], ◌∷◌, ◌++◌, length, OnOk, OnErr, IfErr};
+ghost use Rattle.script_reader.specs.declared.before.Said.{Said};
+ghost use Rattle.script_reader.specs.declared.error.ReadRefusal.TheVariants.{NoMemory};
+ghost use Rattle.script_reader.specs.Grammar.{contexts_in, lines_in};
+ghost use Rattle.script_reader.specs.Heard.{IsHeard, HearsLine, RefusesLine, after};
+
+use crate::before::{Before, Said};
+use crate::contexts::Contexts;
+use crate::error::{ReadRefusal, ScriptError};
+use crate::line::judge_within;
+use crate::lines::Lines;
+use std::alloc::{AllocError, Global};
+
+/// The contexts and lines so far, and what the tests of the next line ask.
+#[derive(Drop)]
+pub(crate) struct Heard {
+    pub(crate) contexts: Contexts,
+    pub(crate) lines: Lines,
+    pub(crate) before: Before,
+}
+
+/// Before the first line.
+pub(crate) fn nothing_heard(alloc: Global) -> Heard
+    ensures heard { IsHeard result [] }
+    ensures lines { result.before.lines ≡ 0 }
+    ensures contexts { result.before.contexts ≡ 0 }
+{
+    Heard {
+        contexts: Contexts::new(alloc),
+        lines: Lines::new(alloc),
+        before: Before {
+            lines: 0,
+            contexts: 0,
+            begun: false,
+            bodied: false,
+            ended: false,
+        },
+    }
+}
+
+/// Takes the next line, which begins after this many bytes, with its line end.
+pub(crate) fn hear_line(heard: &mut Heard, at: usize, line: &[u8]) -> Result<(), ReadRefusal>
+    requires place { at + length line.now < 2 ^ 64 }
+    requires few { heard.old.before.contexts ≤ heard.old.before.lines }
+    requires lines { heard.old.before.lines ≤ 262144 }
+    ensures ok { OnOk result (HearsLine heard.old heard.new at line.now) }
+    ensures few { OnOk result (heard.new.before.contexts ≤ heard.new.before.lines) }
+    ensures lines { OnOk result (heard.new.before.lines ≤ 262144) }
+    ensures err { IfErr result (RefusesLine heard.old at line.now) }
+{
+    match judge_within(at, heard.before, line) {
+        Ok(said) => hear(heard, said),
+        Err(fault) => Err(ReadRefusal::Bad(ScriptError {
+            line: heard.before.lines + 1,
+            fault,
+        })),
+    }
+}
+
+fn hear(heard: &mut Heard, said: Said) -> Result<(), ReadRefusal>
+    requires lines { heard.old.before.lines < 262144 }
+    requires few { heard.old.before.contexts ≤ heard.old.before.lines }
+    ensures contexts { OnOk result (heard.new.contexts ≡ heard.old.contexts ++ contexts_in (said ∷ [])) }
+    ensures kept { OnOk result (heard.new.lines ≡ heard.old.lines ++ lines_in (said ∷ [])) }
+    ensures before { OnOk result (heard.new.before ≡ after heard.old.before said) }
+    ensures few { OnOk result (heard.new.before.contexts ≤ heard.new.before.lines) }
+    ensures err { IfErr result (λ e. e ≡ NoMemory) }
+{
+    let before = before_after(heard.before, &said);
+    match keep(&mut heard.contexts, &mut heard.lines, said) {
+        Ok(()) => {}
+        Err(_) => return Err(ReadRefusal::NoMemory),
+    }
+    heard.before = before;
+    Ok(())
+}
+
+fn keep(contexts: &mut Contexts, lines: &mut Lines, said: Said) -> Result<(), AllocError>
+    ensures contexts { OnOk result (contexts.new ≡ contexts.old ++ contexts_in (said ∷ [])) }
+    ensures lines { OnOk result (lines.new ≡ lines.old ++ lines_in (said ∷ [])) }
+{
+    match said {
+        Said::Context(context) => contexts.push(context),
+        Said::Body(line) => lines.push(line),
+        Said::Nothing | Said::Header | Said::End => Ok(()),
+    }
+}
+
+fn before_after(before: Before, said: &Said) -> Before
+    requires lines { before.lines < 262144 }
+    requires few { before.contexts ≤ before.lines }
+    ensures gives { result ≡ after before said.now }
+    ensures few { result.contexts ≤ result.lines }
+{
+    let Before {
+        lines,
+        contexts,
+        begun,
+        bodied,
+        ended,
+    } = before;
+    match said {
+        Said::Nothing => Before {
+            lines: lines + 1,
+            contexts,
+            begun,
+            bodied,
+            ended,
+        },
+        Said::Header => Before {
+            lines: lines + 1,
+            contexts,
+            begun: true,
+            bodied,
+            ended,
+        },
+        Said::Context(_) => Before {
+            lines: lines + 1,
+            contexts: contexts + 1,
+            begun: true,
+            bodied,
+            ended,
+        },
+        Said::Body(_) => Before {
+            lines: lines + 1,
+            contexts,
+            begun: true,
+            bodied: true,
+            ended,
+        },
+        Said::End => Before {
+            lines: lines + 1,
+            contexts,
+            begun: true,
+            bodied,
+            ended: true,
+        },
+    }
+}

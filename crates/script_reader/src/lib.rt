@@ -1,0 +1,23 @@
+//! Scripts: what their lines say, or which line is faulty, and why.
+#![tactic(auto)]
+
+mod before;
+mod contexts;
+mod cutting;
+mod error;
+mod heard;
+mod line;
+mod lines;
+mod number;
+mod numbers;
+mod reader;
+mod script;
+#[cfg(test)]
+mod tests;
+mod words;
+
+pub use contexts::Contexts;
+pub use error::{Limit, ReadRefusal, ScriptError, ScriptFault};
+pub use lines::Lines;
+pub use reader::read;
+pub use script::{Act, ContextSpec, Line, Script};

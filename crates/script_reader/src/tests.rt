@@ -1,0 +1,127 @@
+//! What no clause says: that scripts are read at all, how a refusal is printed, and that the definitions
+//! agree with the worked examples and with a reference program.
+
+use crate::{Act, ContextSpec, ReadRefusal, read};
+use gl_words::Call;
+use std::alloc::{AllocError, Global};
+use std::test::Fail;
+
+const RED: &str =
+    "glscript 1\ncontext 0 4 4 0\n0 ClearColorx 65536 0 0 65536\n0 Clear COLOR_BUFFER_BIT\nend\n";
+
+// The first example, and what a comment, blanks, line ends and other spellings of the numbers leave of it.
+#[test]
+fn the_red_script_is_read(rt: HostRuntime) -> Result<(), Fail> {
+    let spellings = [
+        RED,
+        "# red\r\n\r\nglscript 1\r\ncontext 0 0x4 4 -0\r\n00 ClearColorx 0x10000 ZERO 0 65536\r\n0 Clear 16384\r\nend",
+        " glscript\t1\n\t#\ncontext  0 4 0000000004 0\n0 ClearColorx 65536 0 0 0x00010000 \n0\tClear 0x4000\nend\n#\n",
+    ];
+    for spelling in &spellings {
+        let script = read(rt.alloc(), spelling.as_bytes())?;
+        let contexts = script.contexts.as_slice();
+        let red = ContextSpec {
+            width: 4,
+            height: 4,
+            memory: 0,
+        };
+        assert_eq!(rt; contexts, [red].as_slice());
+        let lines = script.lines.as_slice();
+        assert_eq!(rt; lines.len(), 2);
+        let colour = Call::ClearColorx {
+            red: 65536,
+            green: 0,
+            blue: 0,
+            alpha: 65536,
+        };
+        assert_eq!(rt; lines[0].act, Act::Gl(colour));
+        assert_eq!(rt; lines[1].act, Act::Gl(Call::Clear { mask: 16384 }));
+        assert_eq!(rt; lines[1].context, 0);
+        assert!(rt; lines[0].number < lines[1].number);
+    }
+    Ok(())
+}
+
+// The refusals are those of the worked examples, and of a reference program.
+#[test]
+fn a_refusal_names_the_line_and_its_first_fault(rt: HostRuntime) -> Result<(), Fail> {
+    let head = "glscript 1\ncontext 0 4 4 0\n";
+    let refusals = [
+        ("", "", "line 1: NoEnd"),
+        ("", "glscript 9\n", "line 1: BadHeader"),
+        ("", "glscript 1\nend\n", "line 2: BadHeader"),
+        ("", "glscript 1\ncontext 0 4 257 0\n", "line 2: OutOfRange"),
+        (
+            "",
+            "glscript 1\ncontext 0 POINTS 4 0\n",
+            "line 2: BadNumber",
+        ),
+        ("", "glscript 1\n0 Flush\n", "line 2: NoSuchContext"),
+        (head, "0 clear 1\n", "line 3: UnknownWord"),
+        (head, "0 Clear 5x\n", "line 3: BadNumber"),
+        (head, "0 Clear 00000000001\n", "line 3: BadNumber"),
+        (head, "0 Clear TRUE\n", "line 3: BadNumber"),
+        (head, "0 Clear 5x 5\n", "line 3: WrongCount"),
+        (head, "0 Clear\nend\n", "line 3: WrongCount"),
+        (head, "0\n", "line 3: WrongCount"),
+        (
+            head,
+            "0 ClearColorx 2147483648 0 0 0\n",
+            "line 3: OutOfRange",
+        ),
+        (head, "1 Flush\nend\n", "line 3: NoSuchContext"),
+        (head, "0 Flush \x7F\n", "line 3: NotText"),
+        (head, "0 Flush\ncontext 1 4 4 0\n", "line 4: BadHeader"),
+        (head, "context 1 4 4 0\n", "line 3: TooMany Contexts"),
+        (head, "# no more\n", "line 4: NoEnd"),
+        (head, "end\n\nclear\n", "line 5: AfterEnd"),
+        (head, "end\n#\x7F\n", "line 4: NotText"),
+        (head, "end\r", "line 3: NotText"),
+    ];
+    for (head, rest, refusal) in &refusals {
+        let script = format!(in rt.alloc(); "{head}{rest}")?;
+        assert_eq!(rt; answer(rt.alloc(), script.as_bytes())?.as_str(), *refusal);
+    }
+    Ok(())
+}
+
+// Each limit at its last accepted and its first refused value.
+#[test]
+fn the_limits_hold_at_their_edges(rt: HostRuntime) -> Result<(), Fail> {
+    let cases = [
+        (262144 - 5, 0, "", "read"),
+        (262144 - 5, 0, "#", "line 262145: TooMany Lines"),
+        (0, 8388608 - RED.len() - 1, "\n", "read"),
+        (0, 8388608 - RED.len(), "\n", "line 6: TooMany SourceBytes"),
+        (
+            0,
+            8388608 - RED.len() - 1,
+            "\n#",
+            "line 7: TooMany SourceBytes",
+        ),
+    ];
+    for (lines, letters, rest, outcome) in &cases {
+        let mut script = Vec::new(rt.alloc());
+        script.extend_from_slice(RED.as_bytes())?;
+        for _ in 0..*lines {
+            script.push(b'\n')?;
+        }
+        if 0 < *letters {
+            script.push(b'#')?;
+        }
+        for _ in 1..*letters {
+            script.push(b'x')?;
+        }
+        script.extend_from_slice(rest.as_bytes())?;
+        assert_eq!(rt; answer(rt.alloc(), script.as_slice())?.as_str(), *outcome);
+    }
+    Ok(())
+}
+
+fn answer(alloc: Global, bytes: &[u8]) -> Result<String, AllocError> {
+    match read(alloc, bytes) {
+        Ok(_) => String::from_str(alloc, "read"),
+        Err(ReadRefusal::Bad(error)) => error.to_string(alloc),
+        Err(ReadRefusal::NoMemory) => Err(AllocError),
+    }
+}
