@@ -1,0 +1,5 @@
+pub mod Bytes
+pub mod Writing
+pub mod SlotBytes
+pub mod Cuts
+pub mod Agreements

@@ -1,0 +1,21 @@
+//! Client memory, what bytes are read from, the pieces of client memory, and segments lent from slots.
+#![tactic(auto)]
+
+mod client_memory;
+mod laws;
+mod lent;
+mod memory;
+mod piece;
+mod pieces;
+mod reads;
+mod segments;
+#[cfg(test)]
+mod tests;
+
+pub use client_memory::ClientMemory;
+pub use laws::{cut_law, lent_law, segment_law, write_law};
+pub use memory::Memory;
+pub use piece::Piece;
+pub use pieces::Pieces;
+pub use reads::{read_i32, read_u16, read_u32};
+pub use segments::Segments;
