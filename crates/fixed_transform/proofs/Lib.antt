@@ -1,0 +1,7 @@
+pub mod Bounds
+pub mod Matrices
+pub mod Angles
+pub mod Axes
+pub mod Greatest
+pub mod Turns
+pub mod Stacks

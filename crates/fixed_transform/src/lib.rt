@@ -1,0 +1,22 @@
+//! The matrices and matrix stacks of OpenGL ES 1.1 in 16.16 fixed point, with exact integer values.
+#![tactic(auto)]
+
+mod angle;
+mod arithmetic;
+mod axis;
+#[cfg(test)]
+mod call_tests;
+pub mod laws;
+mod matrix;
+mod placing;
+mod projection;
+mod stack;
+#[cfg(test)]
+mod tests;
+mod turning;
+
+pub use matrix::Matrix;
+pub use placing::{scaling, translation};
+pub use projection::{frustum, ortho};
+pub use stack::{Bottom, Full, Stack};
+pub use turning::rotation;
