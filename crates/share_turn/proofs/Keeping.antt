@@ -19,6 +19,7 @@ use Rattle.share_turn.specs.Rule.{IsHome, IsOut, IsKept}
 use Rattle.share_turn.specs.Steps.{tries, gives_back}
 use Rattle.share_turn.proofs.Totals.{place_within, one_at_place, sum_by-set_at, one_term_within, two_terms_within}
 use Rattle.share_turn.proofs.Histories.{all_fit_longer}
+use Rattle.share_turn.proofs.Takes.{upto, one_newer, above_none, later_below, taken_counts, same_counts, longer_counts, joined_counts}
 
 pub at_most_one : (b : Bool) → cond b 1 0 ≤ 1
 at_most_one true = omega arith
@@ -26,6 +27,10 @@ at_most_one false = omega arith
 
 is_below : (k n : ℕ) → 1 ≤ cond (nat_lt k n) 1 0 → k < n
 is_below k n some_one = grind (arith, nat_tests)
+
+is_true : (b : Bool) → (b ≡ false → ⊥) → b ≡ true
+is_true true never_false = refl
+is_true false never_false = absurd (never_false refl)
 
 -- true isn't false
 never : {A : Type 0} (b : Bool) → b ≡ true → b ≡ false → A
@@ -92,90 +97,8 @@ module _ {T E : Type 0} (entries : T → List E) (number : E → ℕ) (seats : �
   own_parts s r id v at act = All-same (Fits number r.history) (v.own ∷ v.kept) (parts_of v) (sym (parts_of-active v act)) (r.fitting id v at)
 
   -- a seat without the value isn't the one that holds it
-  idle_elsewhere : (s : St) (r : K s) (id : ℕ) (v : V) (o : IsOut entries number r.history s) → get_elem? s.views id ≡ some v → v.holding ≡ false → o.holder ≢ id
+  idle_elsewhere : (s : St) (r : K s) (id : ℕ) (v : V) (o : IsOut entries number r.history r.takes s) → get_elem? s.views id ≡ some v → v.holding ≡ false → o.holder ≢ id
   idle_elsewhere s r id v o at idle is = never o.view.holding o.holds (ap (λ (x : V). x.holding) (one_at_place s.views id o.view v (subst (λ (n : ℕ). get_elem? s.views n ≡ some o.view) is o.sits) at) ∙ idle)
-
-  -- Kind 1 where the value is at home.
-  taken : (slots : ℕ) (s : St) (r : K s) (id : ℕ) (me : M) → IsHome entries number r.history s → get_elem? s.views id ≡ some me.0 → me.0.active ≡ true
-      → Goes s id me (tries entries number (step slots 0 0 1 none) me) 1
-  taken slots s r id me h at act =
-      let w : V = took me.0 (entries h.value) in let H : List E = r.history in
-      let parts = own_parts s r id me.0 at act in
-      let own : Fits number H w.own = record { own_entries = (All-head (Fits number H) me.0.own me.0.kept parts).own_entries; begins = ([], append-nil (entries h.value) ∙ h.entries_are) } in
-      let fit : All (Fits number H) (parts_of w) = All-same (Fits number H) (parts_of w) (w.own ∷ w.kept) (parts_of-active w act) (All-cons (Fits number H) w.own w.kept own (All-tail (Fits number H) me.0.own me.0.kept parts)) in
-      let new = reseated H s.views id me.0 w (seated s r) at (λ k. kept_by-active k w act ∙ sym (kept_by-active k me.0 act)) fit (r.counted id me.0 at) in
-      let zero_word : get_or s.words 0 0 ≡ 0 = ap (λ (l : List ℕ). get_or l 0 0) h.word in (
-        w,
-        takes 0 (Some h.value),
-        ap (λ (l : List _). get_elem? l 0) h.slot,
-        record {
-          history = H;
-          place = inr record {
-            word = ap (λ (l : List ℕ). set l 0 1) h.word;
-            slot = ap (λ (l : List _). set l 0 none) h.slot;
-            holder = id;
-            view = w;
-            sits = set_here s.views id w (place_within s.views id me.0 at);
-            holds = refl;
-            has_seen = h.entries_are;
-            others = λ i v e ne. h.none_holds i v (sym (set_else s.views id i w ne) ∙ e);
-          };
-          once = new.once;
-          numbered = r.numbered;
-          fitting = new.fitting;
-          counted = new.counted;
-        },
-        (
-          (λ _. record {
-            value = h.value;
-            hand = refl;
-            view = refl;
-            fitting = subst (λ (l : List E). All (Fits number l) (parts_of me.0)) (sym h.entries_are) (r.fitting id me.0 at);
-            numbered = subst (λ (t : ℕ × List E). IsNumberedBelow number t.0 t.1) (λ k. (sym (r.counted id me.0 at act) k, sym h.entries_are k)) r.numbered;
-          }),
-          λ miss. absurd (miss zero_word),
-        ),
-      )
-
-  -- Kind 1 where the value is out.
-  missed : (slots : ℕ) (s : St) (r : K s) (id : ℕ) (me : M) → IsOut entries number r.history s → get_elem? s.views id ≡ some me.0 → me.0.active ≡ true → me.0.holding ≡ false
-      → Goes s id me (tries entries number (step slots 0 0 1 none) me) (get_or s.words 0 0)
-  missed slots s r id me out at act idle =
-      let y : ℕ = get_or s.words 0 0 in let one : y ≡ 1 = ap (λ (l : List ℕ). get_or l 0 0) out.word in
-      let w : V = looked me.0 y in let H : List E = r.history in
-      let fit : All (Fits number H) (parts_of w) = r.fitting id me.0 at in
-      let new = reseated H s.views id me.0 w (seated s r) at (λ k. refl) fit (r.counted id me.0 at) in
-      let ne : out.holder ≢ id = idle_elsewhere s r id me.0 out at idle in (
-        w,
-        keeps,
-        tt,
-        record {
-          history = H;
-          place = inr record {
-            word = ap (λ (l : List ℕ). set l 0 y) out.word ∙ ap (λ (n : ℕ). n ∷ []) one;
-            slot = out.slot;
-            holder = out.holder;
-            view = out.view;
-            sits = set_else s.views id out.holder w ne ∙ out.sits;
-            holds = out.holds;
-            has_seen = out.has_seen;
-            others = λ i v e apart. ⊎_elim (λ t. ap (λ (x : V). x.holding) (sym t.1) ∙ idle) (λ t. out.others i v t.1 apart) (at_set s.views id i w v e);
-          };
-          once = new.once;
-          numbered = r.numbered;
-          fitting = new.fitting;
-          counted = new.counted;
-        },
-        ((λ hit. absurd (let z : y ≡ 0 = hit in omega arith)), λ _. (one, refl)),
-      )
-
-  pub tries_keep : (slots id : ℕ) (me : M) → me.0.active ≡ true → me.0.holding ≡ false
-      → Allows K slots id me 0 (λ y. either (eqb y 0) 1 y) (tries entries number (step slots 0 0 1 none) me)
-  tries_keep slots id me act idle s r wide at small =
-      let y : ℕ = get_or s.words 0 0 in let told = tries entries number (step slots 0 0 1 none) me in
-      exchanged y 0 1 (Goes s id me told)
-      (λ hit. ⊎_elim (λ h. taken slots s r id me h at act) (λ out. absurd (let one : y ≡ 1 = ap (λ (l : List ℕ). get_or l 0 0) out.word in let z : y ≡ 0 = hit in omega arith)) r.place)
-      (λ miss. ⊎_elim (λ h. absurd (miss (ap (λ (l : List ℕ). get_or l 0 0) h.word))) (λ out. missed slots s r id me out at act idle) r.place)
 
   -- a number that a seat keeps stands below the number of seats, and no other place keeps it
   own_is_below : (s : St) (r : K s) (id : ℕ) (v : V) → get_elem? s.views id ≡ some v → v.active ≡ true → v.own.number < seats
@@ -196,8 +119,114 @@ module _ {T E : Type 0} (entries : T → List E) (number : E → ℕ) (seats : �
       let split : here ≡ 1 + count_by (bears n) v.kept = keeps_own v act in
       let within : there + here ≤ all = two_terms_within (kept_by n) s.views i id u v ne at_i at in let is : all ≡ most = r.once n in let small : most ≤ 1 = at_most_one (nat_lt n seats) in omega arith
 
+  -- a seat beside the one that holds the value is one of two at least
+  two_seats : (s : St) (r : K s) (id : ℕ) (v : V) (o : IsOut entries number r.history r.takes s) → get_elem? s.views id ≡ some v → v.active ≡ true → v.last_take < r.takes → o.holder ≢ id → 1 < seats
+  two_seats s r id v o at act below ne =
+      let u : V = o.view in
+      let act' : u.active ≡ true = is_true u.active (λ no. let a : ℕ = u.last_take in let b : ℕ = v.last_take in
+      let none : a ≡ 0 = r.counts.spent_has_none o.holder u o.sits no in let newest : a ≡ r.takes = o.is_newest in let less : b < r.takes = below in absurd (omega arith)) in
+      let n : ℕ = v.own.number in let m : ℕ = u.own.number in let first : n < seats = own_is_below s r id v at act in let second : m < seats = own_is_below s r o.holder u o.sits act' in
+      let apart : n ≢ m = λ same. let x : ℕ = kept_by m u in let none : x ≡ 0 = subst (λ (k : ℕ). kept_by k u ≡ 0) same (not_elsewhere s r id o.holder v u at act ne o.sits) in
+      let some_one : x ≡ 1 + count_by (bears m) u.kept = keeps_own u act' in omega arith in
+      omega arith
+
+  -- Kind 1 where the value is at home.
+  taken : (slots : ℕ) (s : St) (r : K s) (id : ℕ) (me : M) → IsHome entries number r.history s → get_elem? s.views id ≡ some me.0 → me.0.active ≡ true
+      → Goes s id me (tries entries number (step slots 0 0 1 none) me) 1
+  taken slots s r id me h at act =
+      let take : ℕ = r.takes + 1 in let known = r.counts.within id me.0 at in
+      let w : V = took me.0 (entries h.value) take in let H : List E = r.history in
+      let parts = own_parts s r id me.0 at act in
+      let own : Fits number H w.own = record { own_entries = (All-head (Fits number H) me.0.own me.0.kept parts).own_entries; begins = ([], append-nil (entries h.value) ∙ h.entries_are) } in
+      let fit : All (Fits number H) (parts_of w) = All-same (Fits number H) (parts_of w) (w.own ∷ w.kept) (parts_of-active w act) (All-cons (Fits number H) w.own w.kept own (All-tail (Fits number H) me.0.own me.0.kept parts)) in
+      let new = reseated H s.views id me.0 w (seated s r) at (λ k. kept_by-active k w act ∙ sym (kept_by-active k me.0 act)) fit (r.counted id me.0 at) in
+      let zero_word : get_or s.words 0 0 ≡ 0 = ap (λ (l : List ℕ). get_or l 0 0) h.word in (
+        w,
+        takes 0 (Some h.value),
+        ap (λ (l : List _). get_elem? l 0) h.slot,
+        record {
+          history = H;
+          takes = take;
+          counts = taken_counts r.takes s.views id me.0 w r.counts at refl refl act;
+          place = inr record {
+            word = ap (λ (l : List ℕ). set l 0 1) h.word;
+            slot = ap (λ (l : List _). set l 0 none) h.slot;
+            holder = id;
+            view = w;
+            sits = set_here s.views id w (place_within s.views id me.0 at);
+            holds = refl;
+            has_seen = h.entries_are;
+            others = λ i v e ne. h.none_holds i v (sym (set_else s.views id i w ne) ∙ e);
+            is_newest = refl;
+            earlier = λ i v e ne. one_newer v.last_take r.takes (r.counts.within i v (sym (set_else s.views id i w ne) ∙ e)).0;
+          };
+          once = new.once;
+          numbered = r.numbered;
+          fitting = new.fitting;
+          counted = new.counted;
+        },
+        (
+          (λ _. record {
+            value = h.value;
+            hand = refl;
+            take = take;
+            view = refl;
+            newer = (one_newer me.0.last_take r.takes known.0, one_newer me.0.met_take r.takes known.1);
+            fitting = subst (λ (l : List E). All (Fits number l) (parts_of me.0)) (sym h.entries_are) (r.fitting id me.0 at);
+            numbered = subst (λ (t : ℕ × List E). IsNumberedBelow number t.0 t.1) (λ k. (sym (r.counted id me.0 at act) k, sym h.entries_are k)) r.numbered;
+          }),
+          λ miss. absurd (miss zero_word),
+        ),
+      )
+
+  -- Kind 1 where the value is out.
+  missed : (slots : ℕ) (s : St) (r : K s) (id : ℕ) (me : M) → IsOut entries number r.history r.takes s → get_elem? s.views id ≡ some me.0 → me.0.active ≡ true → me.0.holding ≡ false
+      → Goes s id me (tries entries number (step slots 0 0 1 none) me) (get_or s.words 0 0)
+  missed slots s r id me out at act idle =
+      let y : ℕ = get_or s.words 0 0 in let one : y ≡ 1 = ap (λ (l : List ℕ). get_or l 0 0) out.word in
+      let w : V = looked me.0 1 r.takes in let H : List E = r.history in
+      let fit : All (Fits number H) (parts_of w) = r.fitting id me.0 at in
+      let new = reseated H s.views id me.0 w (seated s r) at (λ k. refl) fit (r.counted id me.0 at) in
+      let ne : out.holder ≢ id = idle_elsewhere s r id me.0 out at idle in
+      let below : me.0.last_take < r.takes = out.earlier id me.0 at (λ is. ne (sym is)) in
+      let several : 1 < me.0.seats = subst (λ (n : ℕ). 1 < n) (sym (r.counted id me.0 at act)) (two_seats s r id me.0 out at act below ne) in (
+        w,
+        keeps,
+        tt,
+        record {
+          history = H;
+          takes = r.takes;
+          counts = same_counts r.takes s.views id me.0 w r.counts at refl (upto r.takes) refl;
+          place = inr record {
+            word = ap (λ (l : List ℕ). set l 0 y) out.word ∙ ap (λ (n : ℕ). n ∷ []) one;
+            slot = out.slot;
+            holder = out.holder;
+            view = out.view;
+            sits = set_else s.views id out.holder w ne ∙ out.sits;
+            holds = out.holds;
+            has_seen = out.has_seen;
+            others = λ i v e apart. ⊎_elim (λ t. ap (λ (x : V). x.holding) (sym t.1) ∙ idle) (λ t. out.others i v t.1 apart) (at_set s.views id i w v e);
+            is_newest = out.is_newest;
+            earlier = λ i v e apart. ⊎_elim (λ t. subst (λ (x : V). x.last_take < r.takes) t.1 below) (λ t. out.earlier i v t.1 apart) (at_set s.views id i w v e);
+          };
+          once = new.once;
+          numbered = r.numbered;
+          fitting = new.fitting;
+          counted = new.counted;
+        },
+        ((λ hit. absurd (let z : y ≡ 0 = hit in omega arith)), λ _. (one, (r.takes, below, (r.counts.within id me.0 at).1, several, refl))),
+      )
+
+  pub tries_keep : (slots id : ℕ) (me : M) → me.0.active ≡ true → me.0.holding ≡ false
+      → Allows K slots id me 0 (λ y. either (eqb y 0) 1 y) (tries entries number (step slots 0 0 1 none) me)
+  tries_keep slots id me act idle s r wide at small =
+      let y : ℕ = get_or s.words 0 0 in let told = tries entries number (step slots 0 0 1 none) me in
+      exchanged y 0 1 (Goes s id me told)
+      (λ hit. ⊎_elim (λ h. taken slots s r id me h at act) (λ out. absurd (let one : y ≡ 1 = ap (λ (l : List ℕ). get_or l 0 0) out.word in let z : y ≡ 0 = hit in omega arith)) r.place)
+      (λ miss. ⊎_elim (λ h. absurd (miss (ap (λ (l : List ℕ). get_or l 0 0) h.word))) (λ out. missed slots s r id me out at act idle) r.place)
+
   -- Kind 2.
-  given : (slots : ℕ) (s : St) (r : K s) (id : ℕ) (me : M) (value : T) → (out : IsOut entries number r.history s) → get_elem? s.views id ≡ some me.0 → me.0.active ≡ true → out.holder ≡ id
+  given : (slots : ℕ) (s : St) (r : K s) (id : ℕ) (me : M) (value : T) → (out : IsOut entries number r.history r.takes s) → get_elem? s.views id ≡ some me.0 → me.0.active ≡ true → out.holder ≡ id
       → me.1 ≡ (0, Some value) ∷ [] → GoesOnBy number me.0.own.number me.0.own.seen (entries value)
       → Goes s id me (λ _ m. gives_back entries number (step slots 0 0 0 none) me 0 m) 0
   given slots s r id me value out at act is hand more =
@@ -221,6 +250,8 @@ module _ {T E : Type 0} (entries : T → List E) (number : E → ℕ) (seats : �
         tt,
         record {
           history = entries value;
+          takes = r.takes;
+          counts = same_counts r.takes s.views id me.0 w r.counts at refl (r.counts.within id me.0 at).1 refl;
           place = inl record {
             word = ap (λ (l : List ℕ). set l 0 0) out.word;
             value = value;
@@ -259,6 +290,8 @@ module _ {T E : Type 0} (entries : T → List E) (number : E → ℕ) (seats : �
       (All-cons (Fits number H) p [] (All-head (Fits number H) p ps beside) (All-nil (Fits number H))) in
       let count : v.seats ≡ seats = r.counted id v at act in record {
         history = H;
+        takes = r.takes;
+        counts = longer_counts r.takes views u (same_counts r.takes s.views id v w r.counts at refl (r.counts.within id v at).1 refl) refl refl;
         place = ⊎_elim
             (λ h. inl record {
               word = h.word;
@@ -276,6 +309,10 @@ module _ {T E : Type 0} (entries : T → List E) (number : E → ℕ) (seats : �
               holds = o.holds;
               has_seen = o.has_seen;
               others = λ i x e apart. ⊎_elim (λ z. ⊎_elim (λ t. ap (λ (y : V). y.holding) (sym t.1) ∙ idle) (λ t. o.others i x t.1 apart) (at_set s.views id i w x z)) (λ z. ap (λ (y : V). y.holding) (sym z)) (at_snoc views u x i e);
+              is_newest = o.is_newest;
+              earlier = λ i x e apart. let below : v.last_take < r.takes = o.earlier id v at (λ is. ne (sym is)) in
+                  ⊎_elim (λ z. ⊎_elim (λ t. subst (λ (y : V). y.last_take < r.takes) t.1 below) (λ t. o.earlier i x t.1 apart) (at_set s.views id i w x z))
+                  (λ z. subst (λ (y : V). y.last_take < r.takes) z (above_none v.last_take r.takes below)) (at_snoc views u x i e);
             })
             r.place;
         once = λ k.
@@ -307,6 +344,8 @@ module _ {T E : Type 0} (entries : T → List E) (number : E → ℕ) (seats : �
       let holding : (i : ℕ) (x : V) → get_elem? (set views other spent) i ≡ some x → (x.holding ≡ false) ⊎ (get_elem? s.views i ≡ some x) = λ i x e.
       ⊎_elim (λ t. inl (ap (λ (y : V). y.holding) (sym t.1))) (λ t. ⊎_elim (λ z. inl (ap (λ (y : V). y.holding) (sym z.1) ∙ idle)) (λ z. inr z.1) (at_set s.views id i b x t.1)) (at_set views other i spent x e) in record {
         history = H;
+        takes = r.takes;
+        counts = joined_counts r.takes s.views id v other w r.counts at there two act;
         place = ⊎_elim
             (λ h. inl record {
               word = h.word;
@@ -324,6 +363,12 @@ module _ {T E : Type 0} (entries : T → List E) (number : E → ℕ) (seats : �
               holds = o.holds;
               has_seen = o.has_seen;
               others = λ i x e apart. ⊎_elim (λ z. z) (λ z. o.others i x z apart) (holding i x e);
+              is_newest = o.is_newest;
+              earlier = λ i x e apart.
+                  let below : v.last_take < r.takes = o.earlier id v at (λ is. ne (sym is)) in let below' : w.last_take < r.takes = o.earlier other w there (λ is. ne' (sym is)) in
+                  ⊎_elim (λ t. subst (λ (y : V). y.last_take < r.takes) t.1 (above_none v.last_take r.takes below))
+                  (λ t. ⊎_elim (λ z. subst (λ (y : V). y.last_take < r.takes) z.1 (later_below v.last_take w.last_take r.takes below below')) (λ z. o.earlier i x z.1 apart) (at_set s.views id i b x t.1))
+                  (at_set views other i spent x e);
             })
             r.place;
         once = λ k.
@@ -367,6 +412,12 @@ module _ {T E : Type 0} (entries : T → List E) (number : E → ℕ) where
   opens seats value some_seat below =
       let H : List E = entries value in let v : View E = first_view number seats H in record {
         history = H;
+        takes = 0;
+        counts = record {
+          within = λ i x e. subst (λ (y : View E). (y.last_take ≤ 0) × (y.met_take ≤ 0)) (only_one v x i e) (upto 0, upto 0);
+          newest = inl refl;
+          spent_has_none = λ i x e no. ap (λ (y : View E). y.last_take) (sym (only_one v x i e));
+        };
         place = inl record { word = refl; value = value; slot = refl; entries_are = refl; none_holds = λ i x e. ap (λ (y : View E). y.holding) (sym (only_one v x i e)) };
         once = λ k.
             let single : sum_by (kept_by k) (v ∷ []) ≡ kept_by k v + 0 = sum_by-cons (kept_by k) v [] in

@@ -1,5 +1,5 @@
 -- What a contract sees of a turn and of its seats.
-use Rattle.std.specs.Prelude.{◌≡◌, ℕ, ◌+◌, ◌<◌, true, false, List, ◌++◌, length, map, slice_index_or, Contains, All}
+use Rattle.std.specs.Prelude.{◌≡◌, ℕ, ◌+◌, ◌<◌, ◌≤◌, true, false, List, ◌++◌, length, map, slice_index_or, Contains, All}
 use mathlib.Core.List.{IsPrefix}
 use Rattle.atomic_table.specs.Seated.{TableId}
 use Rattle.share_turn.specs.declared.annals.Annals.{Ghosts}
@@ -53,6 +53,14 @@ module _ {T E : Type 0} {g : Ghosts T E} where
   abbrev pub found : TurnSeat T E g → ℕ
   found s = s.seat.me.0.found
 
+  -- which of the turn's takes was the seat's own last, counted from 1; own
+  abbrev pub last_take : TurnSeat T E g → ℕ
+  last_take s = s.seat.me.0.last_take
+
+  -- which take was under way when the last of its tries failed; own
+  abbrev pub met_take : TurnSeat T E g → ℕ
+  met_take s = s.seat.me.0.met_take
+
   -- the seat has the value; own
   abbrev pub IsHolding : TurnSeat T E g → Type 0
   IsHolding s = s.seat.me.0.holding ≡ true
@@ -69,7 +77,7 @@ module _ {T E : Type 0} {g : Ghosts T E} where
   abbrev pub IsSameSeat : TurnSeat T E g → TurnSeat T E g → Type 0
   IsSameSeat old new = (turn_of new ≡ turn_of old) × (seats_beside new ≡ seats_beside old) × (number_of new ≡ number_of old)
 
-  -- the seat looked once and met the value out. All else of it is as before; own
+  -- the seat looked once and met the value out, by a take newer than its own last, and so of another seat. All else of it is as before; own
   pub record LooksOnly (old new : TurnSeat T E g) : Type 0 where
     pub same : IsSameSeat old new
     pub idle : IsIdle new
@@ -77,6 +85,10 @@ module _ {T E : Type 0} {g : Ghosts T E} where
     pub seen_stays : seen new ≡ seen old
     pub risen : looks new ≡ looks old + 1
     pub met : found new ≡ 1
+    pub take_stays : last_take new ≡ last_take old
+    pub newer : last_take old < met_take new
+    pub no_older : met_take old ≤ met_take new
+    pub several : 1 < seats_beside old
 
   -- the value's entries are those that the seat has seen, followed by entries of its own number; own
   abbrev pub AddsOwn : TurnSeat T E g → T → Type 0
@@ -94,10 +106,11 @@ module _ {T E : Type 0} {g : Ghosts T E} where
     pub own : mine s ≡ entries_of g.number (number_of s) (g.entries value)
     pub all_seen : seen s ≡ g.entries value
     pub no_looks : looks s ≡ 0
+    pub no_takes : (last_take s ≡ 0) × (met_take s ≡ 0)
 
   -- what the seat knew of its tries is as before; own
   abbrev pub SameLooks : TurnSeat T E g → TurnSeat T E g → Type 0
-  SameLooks old new = (looks new ≡ looks old) × (found new ≡ found old)
+  SameLooks old new = (looks new ≡ looks old) × (found new ≡ found old) × (met_take new ≡ met_take old)
 
   -- the seats stand in the order of their numbers, from this one on; own
   abbrev pub IsInOrderFrom : ℕ → List (TurnSeat T E g) → Type 0
@@ -112,13 +125,14 @@ module _ {T E : Type 0} {g : Ghosts T E} where
   abbrev pub IsOfSeats : List (TurnSeat T E g) → List E → Type 0
   IsOfSeats seats history = All (λ e. Contains (map number_of seats) (g.number e)) history
 
-  -- the seat has the value, in which all stands that it knew, and has seen the whole of it; own
+  -- the seat has the value, in which all stands that it knew, has seen the whole of it, and its take is newer than those that it knew; own
   pub record Receives (old new : TurnSeat T E g) (value : T) : Type 0 where
     pub same : IsSameSeat old new
     pub holds : IsHolding new
     pub knew : IsIn value old
     pub mine_stays : mine new ≡ mine old
     pub all_seen : seen new ≡ g.entries value
+    pub newer : (last_take old < last_take new) × (met_take old < last_take new)
 
   -- the seat gave the value back, and its lists have grown by the entries added; own
   pub record Returns (old new : TurnSeat T E g) (value : T) : Type 0 where
@@ -128,3 +142,4 @@ module _ {T E : Type 0} {g : Ghosts T E} where
     pub own : mine new ≡ entries_of g.number (number_of old) (g.entries value)
     pub own_added : (added : List E) → g.entries value ≡ seen old ++ added → mine new ≡ mine old ++ added
     pub looks_stay : SameLooks old new
+    pub take_stays : last_take new ≡ last_take old

@@ -33,6 +33,7 @@ impl Annals for Pairs {
 }
 
 impl Pairs {
+    /// An empty list. No memory is taken before the first pair.
     pub fn new(alloc: Global) -> Pairs
         ensures { result ≡ [] }
     {
@@ -41,6 +42,7 @@ impl Pairs {
         }
     }
 
+    /// Adds a pair at the end: the seat's number, from 0, and the caller's number. Both may be any `u32`.
     pub fn append(&mut self, seat: u32, number: u32) -> Result<(), NoMemory>
         ensures ok { OnOk result (self.new ≡ self.old ++ (seat, number) ∷ []) }
         ensures err { OnErr result (self.new ≡ self.old) }
@@ -49,6 +51,7 @@ impl Pairs {
         Ok(())
     }
 
+    /// The pairs, the oldest first.
     pub fn as_slice(&self) -> &[(u32, u32)]
         ensures { result.now ≡ self.now }
     {

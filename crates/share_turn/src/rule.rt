@@ -5,6 +5,7 @@ use crate::view::{Opening, View};
 use atomic_table::{Join, Play, Split, TableRule};
 use std::marker::PhantomData;
 
+/// The rule of a turn's table: between any two steps there is one history, which `IsKept` states.
 pub struct OneHistory<T> {
     value: PhantomData<T>,
 }
@@ -18,7 +19,7 @@ impl<T: Annals> TableRule<Option<T>, View<T::Entry>, Opening<T>> for OneHistory<
     ghost first = { λ key. first_view T.number key.seats (T.entries key.value.value) };
 }
 
-// A try to have the value, by a compare and exchange of 0 for 1.
+/// A try to have the value, by a compare and exchange of 0 for 1.
 pub struct Try;
 
 impl<T: Annals> Play<Option<T>, View<T::Entry>> for Try {
@@ -27,7 +28,7 @@ impl<T: Annals> Play<Option<T>, View<T::Entry>> for Try {
     ghost then = { tries T.entries T.number };
 }
 
-// The value goes home, by a store of 0.
+/// The value goes home, by a store of 0.
 pub struct GiveBack;
 
 impl<T: Annals> Play<Option<T>, View<T::Entry>> for GiveBack {
@@ -36,7 +37,7 @@ impl<T: Annals> Play<Option<T>, View<T::Entry>> for GiveBack {
     ghost then = { gives_back T.entries T.number };
 }
 
-// The next number is dealt to a seat of its own.
+/// The next number is dealt to a seat of its own.
 pub struct Deal;
 
 impl<E> Split<View<E>> for Deal {
@@ -47,7 +48,7 @@ impl<E> Split<View<E>> for Deal {
     ghost right = { dealt };
 }
 
-// A seat takes another in.
+/// A seat takes another in.
 pub struct TakeIn;
 
 impl<E> Join<View<E>> for TakeIn {

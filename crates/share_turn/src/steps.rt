@@ -3,8 +3,9 @@
 ghost use Rattle.std.specs.Prelude.{◌≡◌, ◌≤◌, ◌<◌, true, [], ◌∷◌, ◌++◌, map, vec_len, vec_capacity};
 ghost use Rattle.std.specs.Prelude.{IfSome, IfNone, All, Some, None};
 ghost use Rattle.share_turn.specs.Annals.{IsNumberedBelow, GoesOnBy};
-ghost use Rattle.share_turn.specs.View.{parts_of, first_view, took, looked, gave, Fits};
+ghost use Rattle.share_turn.specs.View.{parts_of, first_view, gave, Fits};
 ghost use Rattle.share_turn.specs.Steps.{IsFree, HasEmptySlot, HasInSlot, IsLaid, GrowsBy};
+ghost use Rattle.share_turn.specs.Steps.{HasTaken, MeetsTake};
 ghost use Rattle.share_turn.specs.Turn.{IsSeatOf, IsIdle, IsDealt, IsInOrderFrom};
 ghost use Rattle.share_turn.specs.Turn.{turn_id, seat_count, opened_value, own_part};
 
@@ -24,12 +25,12 @@ impl<T: Annals> Turn<T> {
         requires free { IsFree place.old.me }
         ensures turn { place.new.table_id ≡ place.old.table_id }
         ensures some { IfSome result (λ value.
-            place.new.me ≡ (took place.old.me.0 (T.entries value), (0, None) ∷ [])) }
+            HasTaken place.old.me (T.entries value) place.new.me) }
         ensures fitting { IfSome result (λ value.
             All (Fits T.number (T.entries value)) (parts_of place.old.me.0)) }
         ensures numbered { IfSome result (λ value.
             IsNumberedBelow T.number place.old.me.0.seats (T.entries value)) }
-        ensures none { IfNone result (place.new.me ≡ (looked place.old.me.0 1, [])) }
+        ensures none { IfNone result (MeetsTake place.old.me place.new.me) }
     {
         let shared = &self.table.shared;
         if shared.compare_exchange::<Try>(place, 0, 0, 1) == 0 {

@@ -1,7 +1,10 @@
 ghost use Rattle.std.specs.Prelude.{◌≡◌, ◌<◌, [], ◌∷◌, IfOk, All};
 ghost use Rattle.share_turn.specs.Turn.{IsSeatOf, IsIdle, IsAllOf, number_of, seat_count};
 
-use crate::laws::{crossing_law, entries_are_kept_law, seats_differ_law, word_tells_holder_law};
+use crate::laws::{
+    crossing_law, entries_are_kept_law, met_takes_were_made_law, rule_law, seats_differ_law,
+    table_law, word_tells_holder_law,
+};
 use crate::{NoMemory, Pairs, Turn, TurnSeat, append_in_turn};
 use std::alloc::{AllocError, Global};
 use std::sync::Wait;
@@ -132,13 +135,36 @@ fn a_turn_opens_over_entries(rt: HostRuntime) -> Result<(), Fail> {
     append_in_turn(&rt, &turn, &mut second, 1, 9)?;
     let closed = turn.close(&rt, both(alloc, &turn, first, second)?);
     assert_eq!(rt; closed.as_slice(), [(1, 3), (0, 4), (1, 9)].as_slice());
+    // The seat that closed it has the value.
+    assert_eq!(rt; table_law(turn).shared.peek(0), 1);
     Ok(())
+}
+
+// A clause rules the refusal out.
+#[test]
+fn the_only_seat_is_never_refused(rt: HostRuntime) -> Result<(), Fail> {
+    let alloc = rt.alloc();
+    match Turn::new(alloc, Pairs::new(alloc), 1) {
+        Ok((turn, mut seats)) => {
+            let Some(mut seat) = seats.pop() else {
+                unreachable!()
+            };
+            let Some(value) = seat.try_take(&turn) else {
+                unreachable!()
+            };
+            seat.give(&turn, value);
+            Ok(())
+        }
+        Err((_pairs, refused)) => Err(refused.into()),
+    }
 }
 
 #[test]
 fn the_laws_hold_of_pairs() {
+    rule_law::<Pairs>();
     word_tells_holder_law::<Pairs>();
     seats_differ_law::<Pairs>();
+    met_takes_were_made_law::<Pairs>();
     entries_are_kept_law::<Pairs>();
     crossing_law::<Pairs>();
 }

@@ -15,10 +15,19 @@ use std::thread;
 /// A refused request for memory.
 pub type NoMemory = AllocError;
 
+/// The table that a turn stands on: one word, one slot, and the rule `OneHistory`.
+pub type TurnTable<T> = Table<
+    Option<T>,
+    View<<T as Annals>::Entry>,
+    Opening<T>,
+    OneHistory<T>,
+    Global,
+>;
+
 /// A value that seats take turns at. The turn owns it while no seat holds it.
 #[derive(Drop)]
 pub struct Turn<T: Annals> {
-    pub(crate) table: Table<Option<T>, View<T::Entry>, Opening<T>, OneHistory<T>, Global>,
+    pub(crate) table: TurnTable<T>,
     ghost sized: { (table.shared.table_id.words ≡ 1) × (table.shared.table_id.slots ≡ 1) },
     ghost counted: { (1 ≤ table.shared.key.seats) × (table.shared.key.seats ≤ 4) },
 }
@@ -69,7 +78,8 @@ impl<T: Annals> Turn<T> {
         }
     }
 
-    /// Ends the turn: it has no seat and no value afterwards. Waits while the value is out.
+    /// Ends the turn: it has no seat and no value afterwards. All seats are idle, so that the value is
+    /// at home and the first try has it. It stands under `Wait` since no clause of a try says so.
     pub fn close<R: Wait>(&self, rt: &R, seats: Vec<TurnSeat<T>>) -> T
         requires all { IsAllOf self.now seats.items }
         requires idle { All IsIdle seats.items }

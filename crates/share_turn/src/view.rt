@@ -32,4 +32,8 @@ pub struct View<E> {
     pub looks: u64,
     /// The word that the last of them met.
     pub found: u64,
+    /// Which of the turn's takes was its own last, counted from 1; 0 before its first.
+    pub last_take: u64,
+    /// Which take was under way when the last of its tries failed; 0 before that.
+    pub met_take: u64,
 }

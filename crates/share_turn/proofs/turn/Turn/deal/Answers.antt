@@ -37,5 +37,6 @@ loop-number-preserved g c =
         own = ap (λ p. p.mine) own ∙ ap (λ n. entries_of number n history) (sym bears);
         all_seen = ap (λ p. p.seen) own;
         no_looks = ap (λ v. v.looks) is;
+        no_takes = (ap (λ v. v.last_take) is, ap (λ v. v.met_take) is);
       });
     }
