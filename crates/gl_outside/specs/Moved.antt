@@ -2,6 +2,10 @@
 -- Of an object that tells nothing before the call, `Takes` and `Adds` say nothing.
 use Rattle.std.specs.Prelude.{◌≡◌, ℕ, List, [], ◌++◌, Option, None, Some, IsSomeAnd, take, length, ◌≤◌}
 
+-- what an object tells that tells nothing; own
+abbrev pub untold : {X : Type 0} → Option (List X)
+untold = None
+
 -- these came off the front of what was left; own
 unfoldable pub Takes : {X : Type 0} → Option (List X) → Option (List X) → List X → Type 0
 Takes None new taken = Unit {0}

@@ -83,8 +83,10 @@ impl Shelf for MemoryShelf {
     ghost faults = { λ s. s.plan.faults };
 
     fn put(&mut self, name: &str, bytes: &[u8]) -> Result<(), OutError>
-        ensures ok { OnOk result (Adds (Some self.old.list) (Some self.new.list) ((name.now, bytes.now) ∷ [])) }
-        ensures failed { IsErrOf result OutError.Failed → Rose self.old.plan.faults self.new.plan.faults }
+        ensures ok { OnOk result
+            (Adds (Some self.old.list) (Some self.new.list) ((name.now, bytes.now) ∷ [])) }
+        ensures failed { IsErrOf result OutError.Failed
+            → Rose self.old.plan.faults self.new.plan.faults }
         ensures err { OnErr result (self.new.list ≡ self.old.list) }
         ensures count { self.old.plan.faults ≤ self.new.plan.faults }
         ensures range { self.new.plan.faults < 2 ^ 64 }

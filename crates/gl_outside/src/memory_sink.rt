@@ -67,10 +67,12 @@ impl Sink for MemorySink {
     ghost faults = { λ s. s.plan.faults };
 
     fn write(&mut self, bytes: &[u8]) -> Result<usize, OutError>
-        ensures ok { IfOk result (λ n. Adds (Some self.old.held) (Some self.new.held) (take n bytes.now)) }
+        ensures ok { IfOk result
+            (λ n. Adds (Some self.old.held) (Some self.new.held) (take n bytes.now)) }
         ensures within { IfOk result (λ n. n ≤ length bytes.now) }
         ensures some { IfOk result (λ n. 0 < length bytes.now → 0 < n) }
-        ensures failed { IsErrOf result OutError.Failed → Rose self.old.plan.faults self.new.plan.faults }
+        ensures failed { IsErrOf result OutError.Failed
+            → Rose self.old.plan.faults self.new.plan.faults }
         ensures err { OnErr result (self.new.held ≡ self.old.held) }
         ensures count { self.old.plan.faults ≤ self.new.plan.faults }
         ensures range { self.new.plan.faults < 2 ^ 64 }

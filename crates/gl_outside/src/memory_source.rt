@@ -67,7 +67,8 @@ impl Source for MemorySource {
 
     fn read(&mut self, buf: &mut [u8]) -> Result<usize, Failed>
         requires { 0 < length buf.old }
-        ensures ok { IfOk result (λ n. Takes (Some self.old.left) (Some self.new.left) (take n buf.new)) }
+        ensures ok { IfOk result
+            (λ n. Takes (Some self.old.left) (Some self.new.left) (take n buf.new)) }
         ensures within { IfOk result (λ n. n ≤ length buf.old) }
         ensures end { IfOk result (λ n. n ≡ 0 → self.new.left ≡ []) }
         ensures failed { OnErr result (Rose self.old.plan.faults self.new.plan.faults) }
@@ -77,7 +78,8 @@ impl Source for MemorySource {
 
         // What this form does beyond what a source owes.
         ensures fails { is_err result ≡ fails_next self.old.plan }
-        ensures amount { IfOk result (λ n. n ≡ min (min self.old.most (length buf.old)) (length self.old.left)) }
+        ensures amount { IfOk result
+            (λ n. n ≡ min (min self.old.most (length buf.old)) (length self.old.left)) }
         ensures most { self.new.most ≡ self.old.most }
         ensures plan { self.new.plan ≡ after_call self.old.plan }
     {

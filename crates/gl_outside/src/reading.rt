@@ -18,10 +18,13 @@ pub fn read_up_to<S: Source>(
     limit: usize,
 ) -> Result<Vec<u8>, ReadError>
     ensures ok { IfOk result (λ bytes. Takes (S.left source.old) (S.left source.new) bytes.items) }
-    ensures whole { IfOk result (λ bytes. length bytes.items < limit → IfSome (S.left source.old) (λ left. left ≡ bytes.items)) }
+    ensures whole { IfOk result
+        (λ bytes. length bytes.items < limit
+        → IfSome (S.left source.old) (λ left. left ≡ bytes.items)) }
     ensures within { IfOk result (λ bytes. length bytes.items ≤ limit) }
     ensures end { IfOk result (λ bytes. length bytes.items < limit → IsAtEnd (S.left source.new)) }
-    ensures failed { IsErrOf result ReadError.Failed → Rose (S.faults source.old) (S.faults source.new) }
+    ensures failed { IsErrOf result ReadError.Failed
+        → Rose (S.faults source.old) (S.faults source.new) }
     ensures err { OnErr result (TakesAtMost limit (S.left source.old) (S.left source.new)) }
     ensures count { S.faults source.old ≤ S.faults source.new }
 {

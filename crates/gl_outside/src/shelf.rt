@@ -15,7 +15,8 @@ pub trait Shelf: Drop {
 
     /// Puts these bytes under this name, behind what was put before.
     fn put(&mut self, name: &str, bytes: &[u8]) -> Result<(), OutError>
-        ensures ok { OnOk result (Adds (list self.old) (list self.new) ((name.now, bytes.now) ∷ [])) }
+        ensures ok { OnOk result
+            (Adds (list self.old) (list self.new) ((name.now, bytes.now) ∷ [])) }
         ensures failed { IsErrOf result OutError.Failed → Rose (faults self.old) (faults self.new) }
         ensures err { OnErr result (list self.new ≡ list self.old) }
         ensures count { faults self.old ≤ faults self.new }

@@ -1,5 +1,7 @@
 // The real standard input. What it gives no clause says: this file is trusted, with its one test.
-ghost use Rattle.std.specs.Prelude.{◌≡◌, ◌≤◌, length, IfOk};
+ghost use Rattle.std.specs.Prelude.{◌≡◌, ℕ, ◌≤◌, ◌<◌, ◌^◌, length, take, IfOk, OnOk, OnErr};
+ghost use Rattle.gl_outside.specs.Faults.{Rose, one_more};
+ghost use Rattle.gl_outside.specs.Moved.{Takes, IsAtEnd, untold};
 
 use crate::{Failed, Source};
 use std::io::{self, ErrorKind, Read};
@@ -36,13 +38,24 @@ impl<R: Input> StdinSource<R> {
 
 #[tactic(auto, unfolding(crate::specs::Moved::Takes))]
 impl<R: Input> Source for StdinSource<R> {
-    ghost use Rattle.std.specs.Prelude.{None};
-
-    ghost left = { λ _. None };
+    ghost left = { λ _. untold };
 
     ghost faults = { λ s. s };
 
-    fn read(&mut self, buf: &mut [u8]) -> Result<usize, Failed> {
+    fn read(&mut self, buf: &mut [u8]) -> Result<usize, Failed>
+        requires { 0 < length buf.old }
+        ensures ok { IfOk result (λ n. Takes {X = ℕ} untold untold (take n buf.new)) }
+        ensures within { IfOk result (λ n. n ≤ length buf.old) }
+        ensures end { IfOk result (λ n. n ≡ 0 → IsAtEnd {X = ℕ} untold) }
+        ensures failed { OnErr result (Rose self.old self.new) }
+        ensures err { OnErr result (untold {X = ℕ} ≡ untold) }
+        ensures count { self.old ≤ self.new }
+        ensures range { self.new < 2 ^ 64 }
+
+        // What this form does beyond what a source owes: only what failed is counted, once.
+        ensures kept { OnOk result (self.new ≡ self.old) }
+        ensures counted { OnErr result (self.new ≡ one_more self.old) }
+    {
         match read_uninterrupted(&mut self.reader, buf) {
             Ok(n) => Ok(n),
             Err(_) => {

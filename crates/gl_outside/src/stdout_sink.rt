@@ -1,5 +1,7 @@
 // The real standard output. What comes to be held there no clause says: this file is trusted, with its one test.
-ghost use Rattle.std.specs.Prelude.{◌≡◌, ◌≤◌, length, IfOk};
+ghost use Rattle.std.specs.Prelude.{◌≡◌, ℕ, ◌≤◌, ◌<◌, ◌^◌, length, take, IfOk, IsErrOf, OnOk, OnErr};
+ghost use Rattle.gl_outside.specs.Faults.{Rose, one_more};
+ghost use Rattle.gl_outside.specs.Moved.{Adds, untold};
 
 use crate::{OutError, Sink};
 use std::io::{self, ErrorKind};
@@ -34,13 +36,23 @@ impl<R: Print + Drop> StdoutSink<R> {
 
 #[tactic(auto, unfolding(crate::specs::Moved::Adds))]
 impl<R: Print + Drop> Sink for StdoutSink<R> {
-    ghost use Rattle.std.specs.Prelude.{None};
-
-    ghost held = { λ _. None };
+    ghost held = { λ _. untold };
 
     ghost faults = { λ s. s };
 
-    fn write(&mut self, bytes: &[u8]) -> Result<usize, OutError> {
+    fn write(&mut self, bytes: &[u8]) -> Result<usize, OutError>
+        ensures ok { IfOk result (λ n. Adds {X = ℕ} untold untold (take n bytes.now)) }
+        ensures within { IfOk result (λ n. n ≤ length bytes.now) }
+        ensures some { IfOk result (λ n. 0 < length bytes.now → 0 < n) }
+        ensures failed { IsErrOf result OutError.Failed → Rose self.old self.new }
+        ensures err { OnErr result (untold {X = ℕ} ≡ untold) }
+        ensures count { self.old ≤ self.new }
+        ensures range { self.new < 2 ^ 64 }
+
+        // What this form does beyond what a sink owes: only what failed is counted, once.
+        ensures kept { OnOk result (self.new ≡ self.old) }
+        ensures counted { OnErr result (self.new ≡ one_more self.old) }
+    {
         match write_uninterrupted(&self.rt, bytes) {
             Ok(n) if n > 0 || bytes.is_empty() => Ok(n),
             _ => {

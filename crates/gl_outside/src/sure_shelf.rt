@@ -75,7 +75,8 @@ impl Shelf for SureShelf {
     ghost faults = { λ _. 0 };
 
     fn put(&mut self, name: &str, bytes: &[u8]) -> Result<(), OutError>
-        ensures ok { OnOk result (Adds (Some self.old) (Some self.new) ((name.now, bytes.now) ∷ [])) }
+        ensures ok { OnOk result
+            (Adds (Some self.old) (Some self.new) ((name.now, bytes.now) ∷ [])) }
         ensures err { OnErr result (self.new ≡ self.old) }
 
         // What this form does beyond what a shelf owes.
