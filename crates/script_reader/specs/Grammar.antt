@@ -15,18 +15,22 @@ use Rattle.script_reader.specs.declared.script.ContextSpec.{ContextSpec}
 use Rattle.script_reader.specs.declared.script.Line.{Line}
 use Rattle.script_reader.specs.declared.script.Script.{Script}
 
+-- a line that is neither blank nor a comment
 abbrev pub says_something : Said → Bool
 says_something Nothing = false
 says_something _ = true
 
+-- a context line
 abbrev pub is_context : Said → Bool
 is_context (Context context) = true
 is_context _ = false
 
+-- a body line
 abbrev pub is_body : Said → Bool
 is_body (Body line) = true
 is_body _ = false
 
+-- the line `end`
 abbrev pub is_end : Said → Bool
 is_end End = true
 is_end _ = false
@@ -40,6 +44,7 @@ abbrev pub numbered : {A : Type 0} → List Said → Result A ScriptFault → Re
 numbered before (Ok value) = Ok value
 numbered before (Err fault) = Err (record { line = length before + 1; fault = fault })
 
+-- what comes next, if there was no error; else that error
 abbrev pub and_then : {A B E : Type 0} → Result A E → (A → Result B E) → Result B E
 and_then (Ok value) next = next value
 and_then (Err error) next = Err error
@@ -50,11 +55,13 @@ all_said at before [] = if list_any is_end before then Ok before else numbered b
 all_said at before (line ∷ lines) =
     and_then (numbered before (judged_within at (before_of before) line)) (λ said. all_said (at + length line) (before ++ said ∷ []) lines)
 
+-- the contexts that these sayings describe, in their order
 abbrev pub contexts_in : List Said → List ContextSpec
 contexts_in [] = []
 contexts_in (Context context ∷ saids) = context ∷ contexts_in saids
 contexts_in (_ ∷ saids) = contexts_in saids
 
+-- the body lines among these sayings, in their order
 abbrev pub lines_in : List Said → List Line
 lines_in [] = []
 lines_in (Body line ∷ saids) = line ∷ lines_in saids

@@ -20,6 +20,7 @@ use Rattle.script_reader.specs.declared.script.ContextSpec.{ContextSpec}
 use Rattle.script_reader.specs.declared.script.Act.TheVariants.{Gl}
 
 infixl 10 ◌>>=◌
+-- what comes next, if no test has failed; else the fault of the one that did
 abbrev pub ◌>>=◌ : {A B : Type 0} → Result A ScriptFault → (A → Result B ScriptFault) → Result B ScriptFault
 (Ok value) >>= next = next value
 (Err fault) >>= next = Err fault

@@ -3,6 +3,7 @@ pub mod Grammar
 pub mod Heard
 pub mod Judged
 pub mod Limits
+pub mod Name
 pub mod Number
 pub use Rattle.gl_words.specs.Call
 pub use Rattle.gl_words.specs.CallOf

@@ -36,11 +36,11 @@ unfoldable pub number_of : List ℕ → Option ℤ
 number_of [] = None
 number_of (first ∷ rest) = if first == 45 then option_map (λ number. neg_ℤ (pos number)) (decimal_of rest) else unsigned_number first rest
 
--- the first of the two that is there
-abbrev pub named_or : Option ℕ → Option ℤ → Option ℤ
-named_or (Some number) other = Some (pos number)
-named_or None other = other
+-- the first of the two that is there; a name spells no number, since it begins with a letter
+abbrev pub number_or : Option ℤ → Option ℕ → Option ℤ
+number_or (Some number) named = Some number
+number_or None named = option_map pos named
 
--- an argument of a call: a name, or a number
+-- an argument of a call: a number, or a name
 unfoldable pub argument_of : List ℕ → Option ℤ
-argument_of word = named_or (number_named word) (number_of word)
+argument_of word = number_or (number_of word) (number_named word)

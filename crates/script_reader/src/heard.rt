@@ -62,7 +62,8 @@ pub(crate) fn hear_line(heard: &mut Heard, at: usize, line: &[u8]) -> Result<(),
 fn hear(heard: &mut Heard, said: Said) -> Result<(), ReadRefusal>
     requires lines { heard.old.before.lines < 262144 }
     requires few { heard.old.before.contexts ≤ heard.old.before.lines }
-    ensures contexts { OnOk result (heard.new.contexts ≡ heard.old.contexts ++ contexts_in (said ∷ [])) }
+    ensures contexts { OnOk result
+        (heard.new.contexts ≡ heard.old.contexts ++ contexts_in (said ∷ [])) }
     ensures kept { OnOk result (heard.new.lines ≡ heard.old.lines ++ lines_in (said ∷ [])) }
     ensures before { OnOk result (heard.new.before ≡ after heard.old.before said) }
     ensures few { OnOk result (heard.new.before.contexts ≤ heard.new.before.lines) }

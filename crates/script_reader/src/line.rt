@@ -73,7 +73,8 @@ fn judge_words(before: Before, text: &[u8]) -> Result<Said, ScriptFault>
 
 fn judge_first(before: Before, first: &[u8], rest: &[u8]) -> Result<Said, ScriptFault>
     requires { before.lines < 262144 }
-    ensures { result ≡ (if is_comment first.now then Ok Nothing else judged_counting before first.now (words_of rest.now)) }
+    ensures { result ≡ (if is_comment first.now then Ok Nothing
+        else judged_counting before first.now (words_of rest.now)) }
 {
     match first {
         [b'#', ..] => Ok(Said::Nothing),

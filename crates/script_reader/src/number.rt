@@ -119,22 +119,23 @@ fn negated(number: Option<u64>) -> Option<i64>
     }
 }
 
-/// The number that an argument of a call spells: a name's, or one spelled out.
+/// The number that an argument of a call spells: one spelled out, or a name's.
 #[tactic(auto, unfolding(crate::specs::Number::argument_of))]
 pub(crate) fn argument_from(word: &[u8]) -> Option<i64>
     ensures { result ≡ argument_of word.now }
 {
-    match named(word) {
-        Some(number) => Some(i64::from(number)),
-        None => number_from(word),
+    match number_from(word) {
+        Some(number) => Some(number),
+        None => widened(named(word)),
     }
 }
 
-fn named(word: &[u8]) -> Option<u32>
-    ensures { result ≡ number_named word.now }
+fn named(word: &[u8]) -> Option<u64>
+    ensures gives { result ≡ number_named word.now }
+    ensures small { IfSome result (λ number. number < 2 ^ 63) }
 {
     match from_utf8(word) {
-        Ok(name) => number_of_enum(name),
+        Ok(name) => Some(u64::from(number_of_enum(name)?)),
         Err(_) => None,
     }
 }

@@ -19,9 +19,12 @@ use std::alloc::Global;
 pub fn read(alloc: Global, bytes: &[u8]) -> Result<Script, ReadRefusal>
     ensures found { IfOk result (λ script. script_of bytes.now ≡ Ok script) }
     ensures limits { IfOk result (λ script. IsWithinLimits bytes.now script) }
-    ensures only { (script : Script) → script_of bytes.now ≡ Ok script → Answers result (Ok script) }
-    ensures cause { (error : ScriptError) → result ≡ Err (Bad error) → script_of bytes.now ≡ Err error }
-    ensures exact { (error : ScriptError) → script_of bytes.now ≡ Err error → Answers result (Err (Bad error)) }
+    ensures only { (script : Script) → script_of bytes.now ≡ Ok script
+        → Answers result (Ok script) }
+    ensures cause { (error : ScriptError) → result ≡ Err (Bad error)
+        → script_of bytes.now ≡ Err error }
+    ensures exact { (error : ScriptError) → script_of bytes.now ≡ Err error
+        → Answers result (Err (Bad error)) }
 {
     read_all(alloc, bytes)
 }

@@ -1,7 +1,7 @@
 //! What no clause says: that scripts are read at all, how a refusal is printed, and that the definitions
 //! agree with the worked examples and with a reference program.
 
-use crate::{Act, ContextSpec, ReadRefusal, read};
+use crate::{Act, ContextSpec, Name, ReadRefusal, read};
 use gl_words::Call;
 use std::alloc::{AllocError, Global};
 use std::test::Fail;
@@ -38,6 +38,36 @@ fn the_red_script_is_read(rt: HostRuntime) -> Result<(), Fail> {
         assert_eq!(rt; lines[1].act, Act::Gl(Call::Clear { mask: 16384 }));
         assert_eq!(rt; lines[1].context, 0);
         assert!(rt; lines[0].number < lines[1].number);
+    }
+    Ok(())
+}
+
+// The shortest name, the longest and each kind of byte; and words next to them.
+#[test]
+fn a_name_is_at_most_32_letters_digits_hyphens_and_underscores(
+    rt: HostRuntime,
+) -> Result<(), Fail> {
+    let names = ["a", "-Z_09", "ABCDEFGHIJKLMNOPQRSTUVWXYZ012345"];
+    for name in &names {
+        match Name::from_word(name.as_bytes()) {
+            Some(made) => assert_eq!(rt; made.as_bytes(), name.as_bytes()),
+            None => assert_eq!(rt; *name, "a name"),
+        }
+    }
+    let others = [
+        "",
+        "a.b",
+        "a b",
+        "ABCDEFGHIJKLMNOPQRSTUVWXYZ0123456",
+        "@",
+        "[",
+        "`",
+        "{",
+        "/",
+        ":",
+    ];
+    for other in &others {
+        assert!(rt; Name::from_word(other.as_bytes()).is_none());
     }
     Ok(())
 }
@@ -81,6 +111,53 @@ fn a_refusal_names_the_line_and_its_first_fault(rt: HostRuntime) -> Result<(), F
     for (head, rest, refusal) in &refusals {
         let script = format!(in rt.alloc(); "{head}{rest}")?;
         assert_eq!(rt; answer(rt.alloc(), script.as_bytes())?.as_str(), *refusal);
+    }
+    Ok(())
+}
+
+// Each number at its last accepted and its first refused value, and the most digits.
+#[test]
+fn numbers_hold_at_their_edges(rt: HostRuntime) -> Result<(), Fail> {
+    let rows = [
+        ("0 256 256 1048576", "0 Flush", "read"),
+        ("0 257 1 0", "0 Flush", "line 2: OutOfRange"),
+        ("0 1 257 0", "0 Flush", "line 2: OutOfRange"),
+        ("0 0 1 0", "0 Flush", "line 2: OutOfRange"),
+        ("0 1 0 0", "0 Flush", "line 2: OutOfRange"),
+        ("0 1 1 1048577", "0 Flush", "line 2: OutOfRange"),
+        ("0 1 1 -1", "0 Flush", "line 2: OutOfRange"),
+        ("1 1 1 0", "0 Flush", "line 2: OutOfRange"),
+        ("0 1 1 0", "0 Clear 4294967295", "read"),
+        ("0 1 1 0", "0 Clear 4294967296", "line 3: OutOfRange"),
+        ("0 1 1 0", "0 Clear -1", "line 3: OutOfRange"),
+        (
+            "0 1 1 0",
+            "0 ClearColorx 2147483647 -2147483648 0 0",
+            "read",
+        ),
+        (
+            "0 1 1 0",
+            "0 ClearColorx 2147483648 0 0 0",
+            "line 3: OutOfRange",
+        ),
+        (
+            "0 1 1 0",
+            "0 ClearColorx 0 0 0 -2147483649",
+            "line 3: OutOfRange",
+        ),
+        ("0 1 1 0", "0 Clear 0xFFFFFFFF", "read"),
+        ("0 1 1 0", "0 Clear 0x00000001", "read"),
+        ("0 1 1 0", "0 Clear 0x000000001", "line 3: BadNumber"),
+        ("0 1 1 0", "0 Clear 0x", "line 3: BadNumber"),
+        ("0 1 1 0", "0 Clear 0000000001", "read"),
+        ("0 1 1 0", "0 Clear 00000000001", "line 3: BadNumber"),
+        ("0 1 1 0", "0000000000 Flush", "read"),
+        ("0 1 1 0", "00000000000 Flush", "line 3: UnknownWord"),
+        ("0 1 1 0", "1 Flush", "line 3: NoSuchContext"),
+    ];
+    for (context, line, outcome) in &rows {
+        let script = format!(in rt.alloc(); "glscript 1\ncontext {context}\n{line}\nend\n")?;
+        assert_eq!(rt; answer(rt.alloc(), script.as_bytes())?.as_str(), *outcome);
     }
     Ok(())
 }

@@ -5,7 +5,8 @@ ghost use Rattle.script_reader.specs.Cutting.{words_of, is_blank};
 
 /// The first word, and what follows it. None where no word is left.
 pub(crate) fn next_word(text: &[u8]) -> Option<(&[u8], &[u8])>
-    ensures cases { MatchOption result (words_of text.now ≡ []) (λ p. words_of text.now ≡ p.0.now ∷ words_of p.1.now) }
+    ensures cases { MatchOption result (words_of text.now ≡ [])
+        (λ p. words_of text.now ≡ p.0.now ∷ words_of p.1.now) }
     ensures shorter { IfSome result (λ p. length p.1.now < length text.now) }
 {
     let (_, rest) = text.split_at(blanks_len(text));
