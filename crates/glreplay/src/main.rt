@@ -4,6 +4,7 @@
 use gl_front::InlineMaker;
 use gl_outside::{FolderShelf, StdinSource, StdoutSink};
 use replay_core::{Status, exit_code, replay_alone};
+use std::io::ErrorKind;
 use std::process::ExitCode;
 use std::rt::Env;
 use std::{env, io};
@@ -46,11 +47,28 @@ fn asked_text(words: &[String]) -> Option<&'static str> {
     }
 }
 
+/// Tells a status other than Ok on standard error, if that takes it, and gives its exit status.
+fn told(rt: HostRuntime, status: &Status) -> ExitCode {
+    if *status != Status::Ok {
+        let _taken = eprintln!(rt; "{status}");
+    }
+    ExitCode::from(exit_code(status))
+}
+
 fn main(rt: HostRuntime) -> io::Result<ExitCode> {
-    let words = words_of(&rt)?;
+    let words = match words_of(&rt) {
+        Ok(words) => words,
+        Err(error) if error.kind() == ErrorKind::InvalidData => return Ok(told(
+            rt,
+            &Status::BadWords,
+        )),
+        Err(_) => return Ok(told(rt, &Status::NoMemory)),
+    };
     if let Some(text) = asked_text(&words) {
-        print!(rt; "{text}")?;
-        return Ok(ExitCode::from(0));
+        return match print!(rt; "{text}") {
+            Ok(()) => Ok(told(rt, &Status::Ok)),
+            Err(_) => Ok(told(rt, &Status::WriteFault)),
+        };
     }
     let mut source = StdinSource::new(&rt);
     let mut sink = StdoutSink::new(rt);
@@ -66,8 +84,5 @@ fn main(rt: HostRuntime) -> io::Result<ExitCode> {
         &mut shelf,
         &mut rails,
     );
-    if status != Status::Ok {
-        eprintln!(rt; "{status}")?;
-    }
-    Ok(ExitCode::from(exit_code(&status)))
+    Ok(told(rt, &status))
 }

@@ -61,7 +61,7 @@ with_fault own code = if own.fault == 0 then record own { fault = code } else ow
 abbrev pub cleared : Own → Own
 cleared own = record own { pixels = replicate (own.width * own.height) (map byte_of own.clear_colour) }
 
--- the context after a call (sections 2.5, 4.2.3, 5.2); 1281 is INVALID_VALUE
+-- the context after a call (sections 2.5, 4.2.3, 5.1); 1281 is INVALID_VALUE
 unfoldable pub own_after : Own → Call → Own
 own_after own (Clear mask) = if is_known_mask mask then (if clears_colour mask then cleared own else own) else with_fault own 1281
 own_after own (ClearColorx red green blue alpha) = record own { clear_colour = clamped red ∷ clamped green ∷ clamped blue ∷ clamped alpha ∷ [] }

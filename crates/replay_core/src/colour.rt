@@ -49,7 +49,8 @@ impl Colour {
 
     /// The colour as a pixel: red, green, blue and alpha, a byte each.
     pub fn pixel(&self) -> [u8; 4]
-        ensures { result ≡ map byte_of (self.now.red ∷ self.now.green ∷ self.now.blue ∷ self.now.alpha ∷ []) }
+        ensures { result ≡ map byte_of
+            (self.now.red ∷ self.now.green ∷ self.now.blue ∷ self.now.alpha ∷ []) }
     {
         [
             byte(self.red),

@@ -17,9 +17,12 @@ pub fn deliver<K: Sink, G: Shelf>(
     image: &[u8],
     report: &[u8],
 ) -> Status
-    ensures delivers { Delivers result (K.held sink.old) (K.held sink.new) (G.list shelf.old) (G.list shelf.new) ((frame_name, image.now) ∷ []) report.now }
-    ensures shelf_fault { (stored : ℕ) → result ≡ Status.ShelfFault stored → Rose (G.faults shelf.old) (G.faults shelf.new) × (sink.new ≡ sink.old) }
-    ensures write_fault { result ≡ Status.WriteFault → Rose (K.faults sink.old) (K.faults sink.new) }
+    ensures delivers { Delivers result (K.held sink.old) (K.held sink.new) (G.list shelf.old)
+        (G.list shelf.new) ((frame_name, image.now) ∷ []) report.now }
+    ensures shelf_fault { (stored : ℕ) → result ≡ Status.ShelfFault stored
+        → Rose (G.faults shelf.old) (G.faults shelf.new) × (sink.new ≡ sink.old) }
+    ensures write_fault { result ≡ Status.WriteFault
+        → Rose (K.faults sink.old) (K.faults sink.new) }
 {
     match shelf.put("frame-0.ppm", image) {
         Ok(()) => write_report(sink, report),
@@ -31,7 +34,8 @@ pub fn deliver<K: Sink, G: Shelf>(
 /// Writes the report.
 fn write_report<K: Sink>(sink: &mut K, report: &[u8]) -> Status
     ensures writes { Writes result (K.held sink.old) (K.held sink.new) report.now }
-    ensures write_fault { result ≡ Status.WriteFault → Rose (K.faults sink.old) (K.faults sink.new) }
+    ensures write_fault { result ≡ Status.WriteFault
+        → Rose (K.faults sink.old) (K.faults sink.new) }
 {
     match write_all(sink, report) {
         Ok(()) => Status::Ok,

@@ -24,7 +24,8 @@ impl Frame {
         requires { AreSides width height }
         ensures width { IfOk result (λ frame. frame.width ≡ width) }
         ensures height { IfOk result (λ frame. frame.height ≡ height) }
-        ensures pixels { IfOk result (λ frame. frame.pixels.items ≡ replicate (width * height) (replicate 4 0)) }
+        ensures pixels { IfOk result
+            (λ frame. frame.pixels.items ≡ replicate (width * height) (replicate 4 0)) }
     {
         let pixels = vec![in alloc; [0u8; 4]; width as usize * height as usize]?;
         Ok(Frame {
@@ -38,7 +39,8 @@ impl Frame {
     pub fn fill(&mut self, pixel: [u8; 4])
         ensures width { self.new.width ≡ self.old.width }
         ensures height { self.new.height ≡ self.old.height }
-        ensures pixels { self.new.pixels.items ≡ replicate (self.old.width * self.old.height) pixel }
+        ensures pixels { self.new.pixels.items
+            ≡ replicate (self.old.width * self.old.height) pixel }
     {
         self.pixels.fill(pixel);
     }

@@ -39,7 +39,9 @@ fn put_row(
 ) -> Result<(), NoMemory>
     requires small { width ≤ 256 }
     requires inside { (row + 1) * width ≤ length pixels.now }
-    ensures { OnOk result (image.new.items ≡ image.old.items ++ colours_of (take width (drop (row * width) pixels.now))) }
+    ensures { OnOk result
+        (image.new.items ≡ image.old.items
+        ++ colours_of (take width (drop (row * width) pixels.now))) }
 {
     let row = pixels.split_at(row * width).1.split_at(width).0;
     put_pixels(image, row)

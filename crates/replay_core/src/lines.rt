@@ -32,12 +32,19 @@ pub fn run_lines<T: Threads + Sync, D: Driver, R: Rail<D>>(
     requires few { length lines.now ≤ 262144 }
     requires counts { AllLow front.old.counts }
     requires sent { R.sent front.old.rail < 2 ^ 61 }
-    ensures ok { OnOk result (RunsLines (StandsFor R.stands D.steps front.old) D.steps lines.now (StandsFor R.stands D.steps front.new) answers.old.items answers.new.items) }
-    ensures counts { OnOk result (CountsCalls (R.size front.old.rail) front.old.calls front.new.calls (calls_of lines.now) front.old.counts front.new.counts) }
-    ensures journal { OnOk result (TellsCalls (R.size front.old.rail) front.old.calls front.new.calls (calls_of lines.now) (R.journal front.old.rail) (R.journal front.new.rail)) }
+    ensures ok { OnOk result
+        (RunsLines (StandsFor R.stands D.steps front.old) D.steps lines.now
+        (StandsFor R.stands D.steps front.new) answers.old.items answers.new.items) }
+    ensures counts { OnOk result
+        (CountsCalls (R.size front.old.rail) front.old.calls front.new.calls
+        (calls_of lines.now) front.old.counts front.new.counts) }
+    ensures journal { OnOk result
+        (TellsCalls (R.size front.old.rail) front.old.calls front.new.calls (calls_of lines.now)
+        (R.journal front.old.rail) (R.journal front.new.rail)) }
     ensures kept { (more : List Answer) × (answers.new.items ≡ answers.old.items ++ more) }
     ensures rises { AllRiseBy front.old.counts front.new.counts (2 * length lines.now) }
-    ensures sent { (R.sent front.old.rail ≤ R.sent front.new.rail) × (R.sent front.new.rail ≤ R.sent front.old.rail + 2 * length lines.now) }
+    ensures sent { (R.sent front.old.rail ≤ R.sent front.new.rail)
+        × (R.sent front.new.rail ≤ R.sent front.old.rail + 2 * length lines.now) }
     ensures size { R.size front.new.rail ≡ R.size front.old.rail }
 {
     for line in lines {

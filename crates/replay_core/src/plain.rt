@@ -31,7 +31,8 @@ pub struct DirectRun {
 #[tactic(auto, unfolding(crate::specs::Direct::final_own, crate::specs::Direct::script_answers))]
 pub fn direct(alloc: Global, script: &Script) -> Result<DirectRun, NoMemory>
     requires { IsOneContext script.now.contexts }
-    ensures answers { IfOk result (λ done. done.answers.items ≡ script_answers (seen_script script.now)) }
+    ensures answers { IfOk result
+        (λ done. done.answers.items ≡ script_answers (seen_script script.now)) }
     ensures soft { IfOk result (λ done. done.soft ≡ final_own (seen_script script.now)) }
 {
     let context = only_context(script);
@@ -137,8 +138,10 @@ fn batches(size: u64, lines: &[Line]) -> u64
 /// How many batches end at a call, and how many slots the calls of the open batch then take.
 fn cut(size: u64, used: u64, call: &Call) -> (u64, u64)
     requires { used < 2 ^ 32 }
-    ensures ended { (batch : List Call) → slots_used batch ≡ used → result.0 ≡ length (ended_at size batch call.now) }
-    ensures used { (batch : List Call) → slots_used batch ≡ used → result.1 ≡ slots_used (open_after size batch call.now) }
+    ensures ended { (batch : List Call) → slots_used batch ≡ used
+        → result.0 ≡ length (ended_at size batch call.now) }
+    ensures used { (batch : List Call) → slots_used batch ≡ used
+        → result.1 ≡ slots_used (open_after size batch call.now) }
     ensures few { result.0 ≤ 2 }
     ensures small { result.1 ≤ used + 10 }
 {
@@ -152,8 +155,10 @@ fn cut(size: u64, used: u64, call: &Call) -> (u64, u64)
 /// The same of a deferred call.
 fn defer(size: u64, used: u64, call: &Call) -> (u64, u64)
     requires { used < 2 ^ 32 }
-    ensures ended { (batch : List Call) → slots_used batch ≡ used → result.0 ≡ length (ended_by Defer size batch call.now) }
-    ensures used { (batch : List Call) → slots_used batch ≡ used → result.1 ≡ slots_used (open_by Defer size batch call.now) }
+    ensures ended { (batch : List Call) → slots_used batch ≡ used
+        → result.0 ≡ length (ended_by Defer size batch call.now) }
+    ensures used { (batch : List Call) → slots_used batch ≡ used
+        → result.1 ≡ slots_used (open_by Defer size batch call.now) }
     ensures few { result.0 ≤ 2 }
     ensures small { result.1 ≤ used + 10 }
 {
@@ -178,7 +183,8 @@ fn slots(call: &Call) -> u64
 
 /// Whether an open batch with calls in so many slots is a batch: 1, or 0 where it has none.
 fn open_batches(used: u64) -> u64
-    ensures batch { (batch : List Call) → slots_used batch ≡ used → result ≡ length (batch_unless_empty batch) }
+    ensures batch { (batch : List Call) → slots_used batch ≡ used
+        → result ≡ length (batch_unless_empty batch) }
     ensures few { result ≤ 1 }
 {
     if used == 0 { 0 } else { 1 }

@@ -8,6 +8,7 @@ ghost use Rattle.replay_core.specs.Direct.{final_own, script_answers};
 ghost use Rattle.replay_core.specs.Images.{frame_of};
 ghost use Rattle.replay_core.specs.Report.{direct_text, report_for, report_of};
 ghost use Rattle.replay_core.specs.Words.{IsWithinLimits};
+ghost use Rattle.replay_core.specs.declared.words.Command.TheVariants.{Direct};
 
 use crate::image::ppm;
 use crate::lines::{only_context, run_lines};
@@ -38,8 +39,11 @@ pub fn run_command<T: Threads + Sync, R: RailMaker<Soft>>(
     requires command { IsWithinLimits command }
     requires contexts { IsOneContext script.now.contexts }
     requires lines { length script.now.lines ≤ most_lines }
-    ensures image { IfOk result (λ output. output.image.items ≡ frame_of (final_own (seen_script script.now))) }
-    ensures report { IfOk result (λ output. output.report ≡ report_for command (seen_script script.now)) }
+    ensures image { IfOk result
+        (λ output. output.image.items ≡ frame_of (final_own (seen_script script.now))) }
+    ensures report { IfOk result
+        (λ output. output.report ≡ report_for command (seen_script script.now)) }
+    ensures direct { command ≡ Direct → rails.new ≡ rails.old }
 {
     match command {
         Command::Run { batch, ring, .. } => run_script(rt, alloc, rails, batch, ring, script),
@@ -50,8 +54,10 @@ pub fn run_command<T: Threads + Sync, R: RailMaker<Soft>>(
 /// Carries out each call of a script as its line is read.
 fn direct_script(alloc: Global, script: &Script) -> Result<Output, NoMemory>
     requires contexts { IsOneContext script.now.contexts }
-    ensures image { IfOk result (λ output. output.image.items ≡ frame_of (final_own (seen_script script.now))) }
-    ensures report { IfOk result (λ output. output.report ≡ direct_text (script_answers (seen_script script.now))) }
+    ensures image { IfOk result
+        (λ output. output.image.items ≡ frame_of (final_own (seen_script script.now))) }
+    ensures report { IfOk result
+        (λ output. output.report ≡ direct_text (script_answers (seen_script script.now))) }
 {
     let done = direct(alloc, script)?;
     Ok(Output {
@@ -78,8 +84,10 @@ fn run_script<T: Threads + Sync, R: RailMaker<Soft>>(
     requires ring { IsRingLength ring }
     requires contexts { IsOneContext script.now.contexts }
     requires lines { length script.now.lines ≤ most_lines }
-    ensures image { IfOk result (λ output. output.image.items ≡ frame_of (final_own (seen_script script.now))) }
-    ensures report { IfOk result (λ output. output.report ≡ report_of batch (seen_script script.now)) }
+    ensures image { IfOk result
+        (λ output. output.image.items ≡ frame_of (final_own (seen_script script.now))) }
+    ensures report { IfOk result
+        (λ output. output.report ≡ report_of batch (seen_script script.now)) }
 {
     let context = only_context(script);
     let driver = Soft::new(alloc, context.width, context.height)?;

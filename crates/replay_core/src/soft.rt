@@ -130,7 +130,8 @@ impl Driver for Soft {
 
 /// The recorded error after another one: the first stays (section 2.5).
 fn recorded(fault: Option<GlError>, error: GlError) -> Option<GlError>
-    ensures { code_of_fault result ≡ (if code_of_fault fault == 0 then code_of error else code_of_fault fault) }
+    ensures { code_of_fault result
+        ≡ (if code_of_fault fault == 0 then code_of error else code_of_fault fault) }
 {
     match fault {
         None => Some(error),

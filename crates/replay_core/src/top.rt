@@ -8,6 +8,7 @@ ghost use Rattle.script_reader.specs.declared.error.ScriptError.{ScriptError};
 ghost use Rattle.script_reader.specs.declared.script.Script.{Script};
 ghost use Rattle.replay_core.specs.declared.status.Status.{Status};
 ghost use Rattle.replay_core.specs.declared.words.Command.{Command};
+ghost use Rattle.replay_core.specs.declared.words.Command.TheVariants.{Direct};
 ghost use Rattle.replay_core.specs.Words.{command_of, rail_in, texts_of};
 ghost use Rattle.replay_core.specs.Outcome.{most_bytes, Replays, ReadsNoScript, PutsSome, WritesSome, StopsAnywhere};
 
@@ -35,32 +36,44 @@ pub fn replay_alone<T: Threads + Sync, S: Source, K: Sink, G: Shelf, R: RailMake
     shelf: &mut G,
     rails: &mut R,
 ) -> Status
-    requires kind { (asked : Command) → command_of (texts_of words.now) ≡ Some asked → R.kind_of rails.old ≡ rail_in asked }
+    requires kind { (asked : Command) → command_of (texts_of words.now) ≡ Some asked
+        → R.kind_of rails.old ≡ rail_in asked }
     // each answer, with what it says and its cause
-    ensures ok { (asked : Command) → command_of (texts_of words.now) ≡ Some asked → result ≡ Status.Ok
+    ensures ok { (asked : Command) → command_of (texts_of words.now) ≡ Some asked
+        → result ≡ Status.Ok
         → Replays asked (S.left source.old) (S.left source.new)
         (K.held sink.old) (K.held sink.new) (G.list shelf.old) (G.list shelf.new) }
     ensures bad_words { (result ≡ Status.BadWords) ↔ (command_of (texts_of words.now) ≡ None) }
-    ensures bad_words_leave { result ≡ Status.BadWords → (source.new ≡ source.old) × (sink.new ≡ sink.old) × (shelf.new ≡ shelf.old) }
-    ensures read_fault { result ≡ Status.ReadFault → Rose (S.faults source.old) (S.faults source.new)
-        × TakesAtMost (most_bytes + 1) (S.left source.old) (S.left source.new) × (sink.new ≡ sink.old) × (shelf.new ≡ shelf.old) }
-    ensures bad_script { (error : ScriptError) → result ≡ Status.BadScript error → ReadsNoScript (S.left source.old) (S.left source.new) error
+    ensures bad_words_leave { result ≡ Status.BadWords → (source.new ≡ source.old)
         × (sink.new ≡ sink.old) × (shelf.new ≡ shelf.old) }
-    ensures shelf_fault { (stored : ℕ) → result ≡ Status.ShelfFault stored → Rose (G.faults shelf.old) (G.faults shelf.new)
+    ensures read_fault { result ≡ Status.ReadFault
+        → Rose (S.faults source.old) (S.faults source.new)
+        × TakesAtMost (most_bytes + 1) (S.left source.old) (S.left source.new) × (sink.new ≡ sink.old) × (shelf.new ≡ shelf.old) }
+    ensures bad_script { (error : ScriptError) → result ≡ Status.BadScript error
+        → ReadsNoScript (S.left source.old) (S.left source.new) error
+        × (sink.new ≡ sink.old) × (shelf.new ≡ shelf.old) }
+    ensures shelf_fault { (stored : ℕ) → result ≡ Status.ShelfFault stored
+        → Rose (G.faults shelf.old) (G.faults shelf.new)
         × PutsSome (S.left source.old) (S.left source.new) (G.list shelf.old) (G.list shelf.new) stored × (sink.new ≡ sink.old) }
-    ensures write_fault { (asked : Command) → command_of (texts_of words.now) ≡ Some asked → result ≡ Status.WriteFault
+    ensures write_fault { (asked : Command) → command_of (texts_of words.now) ≡ Some asked
+        → result ≡ Status.WriteFault
         → Rose (K.faults sink.old) (K.faults sink.new)
         × WritesSome asked (S.left source.old) (S.left source.new)
         (K.held sink.old) (K.held sink.new) (G.list shelf.old) (G.list shelf.new) }
-    ensures no_memory { (asked : Command) → command_of (texts_of words.now) ≡ Some asked → result ≡ Status.NoMemory
+    ensures no_memory { (asked : Command) → command_of (texts_of words.now) ≡ Some asked
+        → result ≡ Status.NoMemory
         → StopsAnywhere asked (S.left source.old) (S.left source.new)
         (K.held sink.old) (K.held sink.new) (G.list shelf.old) (G.list shelf.new) }
+    // the direct machine makes no rail, and adds to no journal
+    ensures direct { command_of (texts_of words.now) ≡ Some Direct → rails.new ≡ rails.old }
     // refused bytes are told as such, and accepted ones are run, where no count of faults rose
-    ensures refused { (left : List ℕ) (asked : Command) (error : ScriptError) → S.left source.old ≡ Some left
+    ensures refused { (left : List ℕ) (asked : Command) (error : ScriptError)
+        → S.left source.old ≡ Some left
         → command_of (texts_of words.now) ≡ Some asked → script_of (take (most_bytes + 1) left) ≡ Err error
         → ¬ Rose (S.faults source.old) (S.faults source.new)
         → (result ≡ Status.BadScript error) ⊎ (result ≡ Status.NoMemory) }
-    ensures complete { (left : List ℕ) (asked : Command) (script : Script) → S.left source.old ≡ Some left
+    ensures complete { (left : List ℕ) (asked : Command) (script : Script)
+        → S.left source.old ≡ Some left
         → command_of (texts_of words.now) ≡ Some asked → script_of left ≡ Ok script
         → ¬ Rose (S.faults source.old) (S.faults source.new)
         → ¬ Rose (K.faults sink.old) (K.faults sink.new) → ¬ Rose (G.faults shelf.old) (G.faults shelf.new)

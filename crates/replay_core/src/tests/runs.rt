@@ -3,7 +3,7 @@
 use crate::{Status, rail_of, replay_alone};
 use gl_front::{InlineMaker, RailKind};
 use gl_outside::{MemoryShelf, MemorySink, MemorySource};
-use script_reader::{ScriptError, ScriptFault};
+use script_reader::{Limit, ScriptError, ScriptFault};
 use std::alloc::{AllocError, Global};
 use std::test::Fail;
 use std::thread::Threads;
@@ -145,55 +145,59 @@ fn bytes_may_move_one_or_seven_at_a_time(rt: HostRuntime) -> Result<(), Fail> {
     Ok(())
 }
 
-// The lines and the faults are those of a plain program by other hands.
+// The lines and the faults are those of the worked examples, and of a plain program by other hands.
 #[test]
-fn what_leaves_the_form_is_refused_and_nothing_put(rt: HostRuntime) -> Result<(), Fail> {
+fn a_faulty_script_is_refused_and_nothing_put(rt: HostRuntime) -> Result<(), Fail> {
     let rows = [
-        ("", 1, ScriptFault::NoEnd),
+        (b"".as_slice(), 1, ScriptFault::NoEnd),
         (
-            "glscript 2\ncontext 0 4 4 0\nend\n",
+            b"glscript 9\ncontext 0 4 4 0\n0 ClearColorx 65536 0 0 65536\n0 Clear COLOR_BUFFER_BIT\nend\n".as_slice(),
             1,
             ScriptFault::BadHeader,
         ),
         (
-            "glscript 1\ncontext 0 4 257 0\nend\n",
+            b"glscript 1\ncontext 0 4 257 0\n0 ClearColorx 65536 0 0 65536\n0 Clear COLOR_BUFFER_BIT\nend\n".as_slice(),
             2,
             ScriptFault::OutOfRange,
         ),
         (
-            "glscript 1\ncontext 0 4 4 0\n0 Fl\x01sh\nend\n",
-            3,
-            ScriptFault::NotText,
-        ),
-        (
-            "glscript 1\ncontext 0 4 4 0\n0 flush\nend\n",
+            b"glscript 1\ncontext 0 4 4 0\n0 clear 1\n0 Clear COLOR_BUFFER_BIT\nend\n".as_slice(),
             3,
             ScriptFault::UnknownWord,
         ),
         (
-            "glscript 1\ncontext 0 4 4 0\n0 Clear\nend\n",
-            3,
-            ScriptFault::WrongCount,
-        ),
-        (
-            "glscript 1\ncontext 0 4 4 0\n0 Clear 00000000001\nend\n",
-            3,
-            ScriptFault::BadNumber,
-        ),
-        (
-            "glscript 1\ncontext 0 4 4 0\n0 Clear 4294967296\nend\n",
+            b"glscript 1\ncontext 0 4 4 0\n0 ClearColorx 2147483648 0 0 0\n0 Clear COLOR_BUFFER_BIT\nend\n".as_slice(),
             3,
             ScriptFault::OutOfRange,
         ),
         (
-            "glscript 1\ncontext 0 4 4 0\n1 Flush\nend\n",
-            3,
+            b"glscript 1\ncontext 0 4 4 0\n0 ClearColorx 65536 0 0 65536\n0 Clear 5x\nend\n".as_slice(),
+            4,
+            ScriptFault::BadNumber,
+        ),
+        (
+            b"glscript 1\ncontext 0 4 4 0\n0 ClearColorx 65536 0 0 65536\n0 Clear COLOR_BUFFER_BIT\x80\nend\n".as_slice(),
+            4,
+            ScriptFault::NotText,
+        ),
+        (
+            b"glscript 1\ncontext 0 4 4 0\n0 ClearColorx 65536 0 0 65536\n0 Clear COLOR_BUFFER_BIT\n".as_slice(),
+            5,
+            ScriptFault::NoEnd,
+        ),
+        (
+            b"glscript 1\ncontext 0 4 4 0\n0 ClearColorx 65536 0 0 65536\n0 Clear COLOR_BUFFER_BIT\n0 Clear\nend\n".as_slice(),
+            5,
+            ScriptFault::WrongCount,
+        ),
+        (
+            b"glscript 1\ncontext 0 4 4 0\n0 ClearColorx 65536 0 0 65536\n0 Clear COLOR_BUFFER_BIT\n1 Flush\nend\n".as_slice(),
+            5,
             ScriptFault::NoSuchContext,
         ),
-        ("glscript 1\ncontext 0 4 4 0\n", 3, ScriptFault::NoEnd),
         (
-            "glscript 1\ncontext 0 4 4 0\nend\n0 Flush\n",
-            4,
+            b"glscript 1\ncontext 0 4 4 0\n0 ClearColorx 65536 0 0 65536\n0 Clear COLOR_BUFFER_BIT\nend\n0 Flush\n".as_slice(),
+            6,
             ScriptFault::AfterEnd,
         ),
     ];
@@ -202,12 +206,50 @@ fn what_leaves_the_form_is_refused_and_nothing_put(rt: HostRuntime) -> Result<()
             &rt,
             rt.alloc(),
             &WORDS,
-            text.as_bytes(),
+            text,
             Outside::sure(rt.alloc(), 4096),
         )?;
         let error = ScriptError {
             line: *line,
             fault: *fault,
+        };
+        assert_eq!(rt; left.status, Status::BadScript(error));
+        assert!(rt; left.shelf.is_empty());
+        assert!(rt; left.sink.bytes().is_empty());
+    }
+    Ok(())
+}
+
+// A byte behind the last line that a script may have, and a last line that goes on past the last byte.
+#[test]
+fn a_script_past_its_limits_is_refused(rt: HostRuntime) -> Result<(), Fail> {
+    let rows = [
+        (RED, b'\n', 262_144 - 5, Limit::Lines, 262_145),
+        (
+            "glscript 1\ncontext 0 4 4 0\n#",
+            b'x',
+            8_388_609 - 28,
+            Limit::SourceBytes,
+            3,
+        ),
+    ];
+    for (text, filling, count, limit, line) in &rows {
+        let mut script = Vec::new(rt.alloc());
+        script.extend_from_slice(text.as_bytes())?;
+        for _ in 0..*count {
+            script.push(*filling)?;
+        }
+        script.push(b'#')?;
+        let left = replay(
+            &rt,
+            rt.alloc(),
+            &WORDS,
+            script.as_slice(),
+            Outside::sure(rt.alloc(), 65536),
+        )?;
+        let error = ScriptError {
+            line: *line,
+            fault: ScriptFault::TooMany(*limit),
         };
         assert_eq!(rt; left.status, Status::BadScript(error));
         assert!(rt; left.shelf.is_empty());
@@ -252,6 +294,7 @@ fn is_refused<T: Threads + Sync>(
 fn other_words_are_refused_and_nothing_read(rt: HostRuntime) -> Result<(), Fail> {
     assert!(rt; is_refused(&rt, rt.alloc(), &[])?);
     assert!(rt; is_refused(&rt, rt.alloc(), &["direct", "inline"])?);
+    assert!(rt; is_refused(&rt, rt.alloc(), &["direct", "--ring", "8"])?);
     assert!(rt; is_refused(&rt, rt.alloc(), &["run", "--batch", "15"])?);
     assert!(rt; is_refused(&rt, rt.alloc(), &["run", "--ring", "65"])?);
     assert!(rt; is_refused(&rt, rt.alloc(), &["run", "--rail"])?);
@@ -297,21 +340,47 @@ fn a_fault_of_the_shelf_leaves_nothing(rt: HostRuntime) -> Result<(), Fail> {
     Ok(())
 }
 
+// After so many bytes a call, the call of this number fails.
 #[test]
 fn a_fault_of_the_sink_leaves_the_image_and_a_beginning(rt: HostRuntime) -> Result<(), Fail> {
     let rows = [
-        (0u64, ""),
-        (1, "glreport 1\ncount"),
-        (2, "glreport 1\ncounts 0 2 0 0 1\nimag"),
+        (16, 0u64, ""),
+        (16, 1, "glreport 1\ncount"),
+        (16, 2, "glreport 1\ncounts 0 2 0 0 1\nimag"),
+        (10, 1, "glreport 1"),
     ];
-    for (call, written) in &rows {
-        let mut outside = Outside::sure(rt.alloc(), 16);
+    for (most, call, written) in &rows {
+        let mut outside = Outside::sure(rt.alloc(), *most);
         outside.sink.push(*call)?;
         let left = replay(&rt, rt.alloc(), &WORDS, RED.as_bytes(), outside)?;
         assert_eq!(rt; left.status, Status::WriteFault);
         assert_eq!(rt; left.sink.bytes(), written.as_bytes());
         assert_eq!(rt; left.shelf.len(), 1);
         assert_eq!(rt; left.shelf.bytes_at(0), RED_IMAGE);
+    }
+    Ok(())
+}
+
+// A batch of 16 slots has room for three of these calls, which have five each. The counts are those of a
+// plain program by other hands.
+#[test]
+fn the_counts_follow_the_size_of_batches(rt: HostRuntime) -> Result<(), Fail> {
+    let text =
+        "glscript 1\ncontext 0 1 1 64\n0 ClearColorx 0 0 0 0\n0 ClearColorx 0 0 0 0\n0 ClearColorx 0 0 0 0\n0 ClearColorx 0 0 0 0\nend\n";
+    let rows = [
+        ("16", "glreport 1\ncounts 0 4 0 0 2\nimages 1\nend\n"),
+        ("8192", "glreport 1\ncounts 0 4 0 0 1\nimages 1\nend\n"),
+    ];
+    for (batch, report) in &rows {
+        let left = replay(
+            &rt,
+            rt.alloc(),
+            &["run", "--ring", "1", "--batch", *batch],
+            text.as_bytes(),
+            Outside::sure(rt.alloc(), 4096),
+        )?;
+        assert_eq!(rt; left.status, Status::Ok);
+        assert_eq!(rt; left.sink.bytes(), report.as_bytes());
     }
     Ok(())
 }
