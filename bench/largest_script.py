@@ -18,22 +18,30 @@ from pathlib import Path
 
 TOP = Path(__file__).resolve().parent.parent
 PROGRAM = TOP / "crates/glreplay/out/glreplay"
-LINES = 262144  # the most that a script may have
+LINES = 262144  # the most that a script may have, and the most bytes
+BYTES = 8388608
 RUNS = 5
 
 
 def largest_script():
-    """As many lines as a script may have, in nearly as many bytes: 8,388,608 at most."""
+    """As many lines and as many bytes as a script may have."""
     body = []
-    for number in range(LINES - 3):
+    for number in range(LINES - 4):
         if number % 1024 == 1023:
             body.append("0 GetError")
         elif number % 64 == 63:
             body.append("0 Clear COLOR_BUFFER_BIT")
         else:
-            body.append(f"0 ClearColorx {number % 65537} 0 65536 0")
-    text = "\n".join(["glscript 1", "context 0 16 16 0", *body, "end", ""])
-    assert text.count("\n") == LINES and len(text) <= 8388608
+            body.append(f"0 ClearColorx {number % 65537:05} 0 65536 0")
+    lines = ["glscript 1", "context 0 16 16 0", *body, "#", "end", ""]
+    missing = BYTES - len("\n".join(lines))
+    for place in range(2, len(lines)):  # blanks fill it up, two a line
+        if missing > 1 and lines[place].startswith("0 ClearColorx"):
+            lines[place] += "  "
+            missing -= 2
+    lines[-3] += "-" * missing
+    text = "\n".join(lines)
+    assert text.count("\n") == LINES and len(text) == BYTES
     return text.encode()
 
 

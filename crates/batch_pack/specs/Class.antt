@@ -13,7 +13,7 @@ class_of Finish = Sync
 class_of Flush = Defer
 class_of GetError = Sync
 
--- whether a call has the open batch sent on its way; section 5.2
+-- whether a call has the open batch sent on its way; section 5.1
 unfoldable pub is_flush : Call → Bool
 is_flush (Clear mask) = false
 is_flush (ClearColorx red green blue alpha) = false

@@ -39,5 +39,6 @@ pub record IsTheOnlySpelling (one other : List ℕ) (call other_call : Call) : T
   pub no_shorter : (more : List ℕ) → other ≡ one ++ more → more ≡ []
   pub same_call : one ≡ other → call ≡ other_call
 
+-- what holds of any two lists of slots that are spellings; own
 abbrev pub SpellingLaw : List ℕ → List ℕ → Type 0
 SpellingLaw one other = (call other_call : Call) → IsInRange call → IsInRange other_call → one ≡ spelling_of call → other ≡ spelling_of other_call → IsTheOnlySpelling one other call other_call

@@ -45,7 +45,8 @@ impl Batch {
 
     /// Puts a call behind the others.
     pub fn try_pack(&mut self, call: &Call) -> Result<(), Full>
-        ensures ok { OnOk result (self.new ≡ record self.old { calls = self.old.calls ++ call.now ∷ [] }) }
+        ensures ok { OnOk result
+            (self.new ≡ record self.old { calls = self.old.calls ++ call.now ∷ [] }) }
         ensures full { IsErr result ↔ (slots_left self.old < slots_of call.now) }
         ensures err { OnErr result (self.new ≡ self.old) }
     {

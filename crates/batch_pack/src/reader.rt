@@ -41,7 +41,8 @@ impl<'a> Model for Reader<'a> {
 impl Reader<'_> {
     /// The next call, which is then no longer to come. None exactly at the end.
     pub fn next(&mut self) -> Option<Packed>
-        ensures next { MatchOption result (self.old ≡ []) (λ packed. self.old ≡ packed.call ∷ self.new) }
+        ensures next { MatchOption result (self.old ≡ [])
+            (λ packed. self.old ≡ packed.call ∷ self.new) }
         ensures in_range { IfSome result (λ packed. IsInRange packed.call) }
         ensures end { IfNone result (self.new ≡ self.old) }
     {
@@ -54,7 +55,8 @@ impl Reader<'_> {
 /// A reader of these slots. Refused exactly where they are no list of spellings.
 pub fn parse(slots: &[u64]) -> Result<Reader<'_>, BadSlots>
     ensures found { IfOk result (λ calls. AreInRange calls × (slots.now ≡ spellings_of calls)) }
-    ensures only { (calls : List Call) → AreInRange calls → slots.now ≡ spellings_of calls → result ≡ Ok calls }
+    ensures only { (calls : List Call) → AreInRange calls → slots.now ≡ spellings_of calls
+        → result ≡ Ok calls }
     ensures bad { IsErr result → ¬ AreSpellings slots.now }
 {
     let mut rest = slots;
@@ -77,8 +79,10 @@ pub(crate) fn reader_of(slots: &[u64]) -> Reader<'_>
 
 /// The call whose spelling slots begin with. None exactly where they begin with no spelling.
 fn first_call(slots: &[u64]) -> Option<Call>
-    ensures found { IfSome result (λ call. IsInRange call × (more : List ℕ) × (slots.now ≡ spelling_of call ++ more)) }
-    ensures only { (call : Call) (more : List ℕ) → IsInRange call → slots.now ≡ spelling_of call ++ more → result ≡ Some call }
+    ensures found { IfSome result
+        (λ call. IsInRange call × (more : List ℕ) × (slots.now ≡ spelling_of call ++ more)) }
+    ensures only { (call : Call) (more : List ℕ) → IsInRange call
+        → slots.now ≡ spelling_of call ++ more → result ≡ Some call }
 {
     match slots {
         [] => None,
@@ -88,8 +92,11 @@ fn first_call(slots: &[u64]) -> Option<Call>
 
 /// The call whose spelling is a header and the first of the slots behind it, where there is one.
 fn call_behind(header: u64, rest: &[u64]) -> Option<Call>
-    ensures found { IfSome result (λ call. IsInRange call × (more : List ℕ) × (header ∷ rest.now ≡ spelling_of call ++ more)) }
-    ensures only { (call : Call) (more : List ℕ) → IsInRange call → header ∷ rest.now ≡ spelling_of call ++ more → result ≡ Some call }
+    ensures found { IfSome result
+        (λ call. IsInRange call × (more : List ℕ)
+        × (header ∷ rest.now ≡ spelling_of call ++ more)) }
+    ensures only { (call : Call) (more : List ℕ) → IsInRange call
+        → header ∷ rest.now ≡ spelling_of call ++ more → result ≡ Some call }
 {
     let count = header / 0x1_0000;
     if count == 0 || count > 10 || count - 1 > rest.len() as u64 {

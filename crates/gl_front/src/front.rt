@@ -78,10 +78,12 @@ impl<D: Driver, R: Rail<D>> Front<D, R> {
         requires counts { AllHaveRoom self.old.counts }
         requires sent { HasRoom (R.sent self.old.rail) }
         // the reply is the driver's, and no other state is stood for
-        ensures ok { IfOk result (λ reply. CarriesOut R.stands D.steps self.old self.new call.now reply) }
+        ensures ok { IfOk result
+            (λ reply. CarriesOut R.stands D.steps self.old self.new call.now reply) }
         ensures open_batch { OnOk result
             (self.new.calls ≡ open_after (R.size self.old.rail) self.old.calls call.now) }
-        ensures counts { OnOk result (self.new.counts ≡ counts_after self.old.counts (class_of call.now)
+        ensures counts { OnOk result
+            (self.new.counts ≡ counts_after self.old.counts (class_of call.now)
             (length (ended_at (R.size self.old.rail) self.old.calls call.now))) }
         ensures journal { OnOk result (Told (R.journal self.old.rail) (R.journal self.new.rail)
             (ended_at (R.size self.old.rail) self.old.calls call.now)) }
@@ -118,7 +120,8 @@ impl<D: Driver, R: Rail<D>> Front<D, R> {
         requires counts { AllHaveRoom self.old.counts }
         requires sent { HasRoom (R.sent self.old.rail) }
         ensures carries { CarriesOut R.stands D.steps self.old self.new call.now Nothing }
-        ensures open_batch { self.new.calls ≡ open_after (R.size self.old.rail) self.old.calls call.now }
+        ensures open_batch { self.new.calls
+            ≡ open_after (R.size self.old.rail) self.old.calls call.now }
         ensures counts { self.new.counts ≡ counts_after self.old.counts Defer
             (length (ended_at (R.size self.old.rail) self.old.calls call.now)) }
         ensures journal { Told (R.journal self.old.rail) (R.journal self.new.rail)
@@ -142,7 +145,8 @@ impl<D: Driver, R: Rail<D>> Front<D, R> {
         requires class { class_of call.now ≡ Sync }
         requires counts { AllHaveRoom self.old.counts }
         requires sent { HasRoom (R.sent self.old.rail) }
-        ensures ok { IfOk result (λ reply. CarriesOut R.stands D.steps self.old self.new call.now reply) }
+        ensures ok { IfOk result
+            (λ reply. CarriesOut R.stands D.steps self.old self.new call.now reply) }
         ensures open_batch { self.new.calls ≡ [] }
         ensures counts { OnOk result (self.new.counts ≡ counts_after self.old.counts Sync
             (length (batch_unless_empty self.old.calls))) }
@@ -171,7 +175,8 @@ impl<D: Driver, R: Rail<D>> Front<D, R> {
     pub fn flush<T: Threads + Sync>(&mut self, rt: &T)
         requires counts { AllHaveRoom self.old.counts }
         requires sent { HasRoom (R.sent self.old.rail) }
-        ensures stands { StandsForNoMore (StandsFor R.stands D.steps self.old) (StandsFor R.stands D.steps self.new) }
+        ensures stands { StandsForNoMore (StandsFor R.stands D.steps self.old)
+            (StandsFor R.stands D.steps self.new) }
         ensures open_batch { self.new.calls ≡ [] }
         ensures counts { self.new.counts
             ≡ counts_flushed self.old.counts (length (batch_unless_empty self.old.calls)) }
@@ -194,7 +199,8 @@ impl<D: Driver, R: Rail<D>> Front<D, R> {
     pub fn finish<T: Threads + Sync>(&mut self, rt: &T) -> Result<(), NoMemory>
         requires counts { AllHaveRoom self.old.counts }
         requires sent { HasRoom (R.sent self.old.rail) }
-        ensures stands { StandsForNoMore (StandsFor R.stands D.steps self.old) (StandsFor R.stands D.steps self.new) }
+        ensures stands { StandsForNoMore (StandsFor R.stands D.steps self.old)
+            (StandsFor R.stands D.steps self.new) }
         ensures sound { OnOk result (¬ R.failed self.new.rail) }
         ensures err { OnErr result
             (R.failed self.new.rail × (R.failed self.old.rail ⊎ (self.old.calls ≢ []))) }

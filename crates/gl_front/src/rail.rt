@@ -57,8 +57,10 @@ pub trait Rail<D: Driver>: RailState<D> {
     fn take(&mut self) -> Result<D, NoMemory>
         requires home { Self.home self.old }
         ensures ok { IfOk result (λ driver. Self.stands self.old driver × Self.taken self.new) }
-        ensures err { OnErr result (Self.failed self.old × Self.failed self.new × Self.home self.new) }
-        ensures stands { OnErr result (StandsForNoMore (Self.stands self.old) (Self.stands self.new)) }
+        ensures err { OnErr result
+            (Self.failed self.old × Self.failed self.new × Self.home self.new) }
+        ensures stands { OnErr result
+            (StandsForNoMore (Self.stands self.old) (Self.stands self.new)) }
         ensures size { Self.size self.new ≡ Self.size self.old }
         ensures sent { Self.sent self.new ≡ Self.sent self.old }
         ensures journal { Told (Self.journal self.old) (Self.journal self.new) [] };

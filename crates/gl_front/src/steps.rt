@@ -34,7 +34,8 @@ pub fn submit_unless_empty<T: Threads + Sync, D: Driver, R: Rail<D>>(
     ensures home { R.home rail.new }
     ensures size { R.size rail.new ≡ R.size rail.old }
     ensures sent { R.sent rail.new ≡ R.sent rail.old + result.1 }
-    ensures journal { Told (R.journal rail.old) (R.journal rail.new) (batch_unless_empty batch.calls) }
+    ensures journal { Told (R.journal rail.old) (R.journal rail.new)
+        (batch_unless_empty batch.calls) }
 {
     if batch.used() == 0 {
         return (batch, 0);

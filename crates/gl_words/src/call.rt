@@ -18,9 +18,9 @@ pub enum Call {
         blue: i32,
         alpha: i32,
     },
-    /// Waits until all calls were carried out (section 5.2).
+    /// Waits until all calls were carried out (section 5.1).
     Finish,
-    /// Sends all calls on their way (section 5.2).
+    /// Sends all calls on their way (section 5.1).
     Flush,
     /// Asks for the recorded error, which is forgotten (section 2.5).
     GetError,
@@ -128,8 +128,10 @@ fn one_of(first: i32, second: i32, third: i32, fourth: i32, at: usize) -> i64
 #[tactic(auto, using(crate::proofs::Rows::rows))]
 pub fn call_from(id: u16, args: &[i64]) -> Option<Call>
     ensures gives { result ≡ call_of id args.now }
-    ensures found { IfSome result (λ call. (id_of call ≡ id) × (arguments call ≡ args.now) × IsInRange call) }
-    ensures only { (call : Call) → IsInRange call → id_of call ≡ id → arguments call ≡ args.now → result ≡ Some call }
+    ensures found { IfSome result
+        (λ call. (id_of call ≡ id) × (arguments call ≡ args.now) × IsInRange call) }
+    ensures only { (call : Call) → IsInRange call → id_of call ≡ id → arguments call ≡ args.now
+        → result ≡ Some call }
 {
     row_from(id, args)
 }

@@ -75,7 +75,8 @@ static SHAPES: [NamedShape; 5] = [
 pub fn shape_of_name(name: &str) -> Option<Shape>
     ensures gives { option_map seen_shape result ≡ shape_named name.now }
     ensures found { IfSome result (λ shape. IsNamedShape name.now shape) }
-    ensures only { (call : Call) → name_of call ≡ name.now → IsSomeAnd result (λ shape. IsShapeOf shape call) }
+    ensures only { (call : Call) → name_of call ≡ name.now
+        → IsSomeAnd result (λ shape. IsShapeOf shape call) }
 {
     shape_in(&SHAPES, name)
 }

@@ -7,32 +7,37 @@ use Rattle.triangle_raster.specs.declared.shape.Shape.{Shape}
 use Rattle.triangle_raster.specs.Vertex.{Vector, IsWithin, IsView, AreCorners}
 use Rattle.triangle_raster.specs.Pixel.{Weights, delta_of, edge_of, weights_of}
 
--- a point and an edge as vectors, and sums as weights
+-- a point as a vector
 abbrev pub point_seen : Point → Vector
 point_seen p = record { x = p.x; y = p.y; d = p.d }
 
+-- an edge as a vector
 abbrev pub edge_seen : Edge → Vector
 edge_seen e = record { x = e.x; y = e.y; d = e.d }
 
+-- sums as weights
 abbrev pub sums_seen : Sums → Weights
 sums_seen s = record { one = s.one; two = s.two; three = s.three }
 
--- the bounds of a corner's point, of an edge between two of them, and of the sums at a pixel
+-- the bounds of a corner's point
 pub record IsNearPoint (p : Point) : Type 0 where
   pub across : IsWithin (2 ^ 39) p.x
   pub upward : IsWithin (2 ^ 39) p.y
   pub divisor : IsWithin (2 ^ 28) p.d
 
+-- the bounds of a pixel's centre
 pub record IsNearCentre (p : Point) : Type 0 where
   pub across : IsWithin (2 ^ 10) p.x
   pub upward : IsWithin (2 ^ 10) p.y
   pub divisor : IsWithin 2 p.d
 
+-- the bounds of an edge between two corners' points
 pub record IsNearEdge (e : Edge) : Type 0 where
   pub across : IsWithin (2 ^ 68) e.x
   pub upward : IsWithin (2 ^ 68) e.y
   pub divisor : IsWithin (2 ^ 79) e.d
 
+-- the bounds of the sums at a pixel
 pub record AreNearSums (s : Sums) : Type 0 where
   pub near_one : IsWithin (2 ^ 81) s.one
   pub near_two : IsWithin (2 ^ 81) s.two

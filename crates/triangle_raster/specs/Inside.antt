@@ -11,6 +11,7 @@ use Rattle.triangle_raster.specs.Held.{IsShape, AreSumsAt}
 abbrev pub setup_seen : InsideSetup → Triangle
 setup_seen s = triangle_of s.shape.corners s.shape.view s.area
 
+-- the shape and the area keep their bounds
 pub record IsSetup (s : InsideSetup) : Type 0 where
   pub shape_holds : IsShape s.shape
   pub area_holds : IsArea s.area

@@ -68,10 +68,11 @@ abbrev pub means : Weights → List ℤ → List ℤ → List ℤ → List ℤ
 means w (a ∷ firsts) (b ∷ seconds) (c ∷ thirds) = mean w a b c ∷ means w firsts seconds thirds
 means w firsts seconds thirds = []
 
--- the sum of the corners' z by weight, and of their w
+-- the sum of the corners' z by weight
 unfoldable pub z_at : List Vertex → Weights → ℤ
 z_at corners w = weighted w (corner corners 0).z (corner corners 1).z (corner corners 2).z
 
+-- the sum of the corners' w by weight
 unfoldable pub w_at : List Vertex → Weights → ℤ
 w_at corners w = weighted w (corner corners 0).w (corner corners 1).w (corner corners 2).w
 

@@ -13,6 +13,7 @@ pub record Triangle : Type 0 where
   pub view : View
   pub area : Area
 
+-- the triangle of these corners in this viewport and area
 abbrev pub triangle_of : List Vertex → View → Area → Triangle
 triangle_of corners view area = record { corners = corners; view = view; area = area }
 

@@ -11,10 +11,11 @@ next_place zero = 1
 next_place (suc zero) = 2
 next_place (suc (suc k)) = 0
 
--- the first and the second end of the edge across from the corner at place k
+-- the first end of the edge across from the corner at place k
 abbrev pub first_end : List Vertex → View → ℕ → Vector
 first_end corners view k = place corners view (next_place k)
 
+-- the second end of the edge across from the corner at place k
 abbrev pub second_end : List Vertex → View → ℕ → Vector
 second_end corners view k = place corners view (next_place (next_place k))
 

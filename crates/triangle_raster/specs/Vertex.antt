@@ -72,10 +72,11 @@ determinant p a b = value_at (edge_through a b) p
 unfoldable pub turned : Vector → Vector
 turned edge = record { x = neg_ℤ edge.x; y = neg_ℤ edge.y; d = neg_ℤ edge.d }
 
--- the corner at place k of a triangle, and what a read past the last place gives
+-- what a read past the last place gives
 abbrev pub no_corner : Vertex
 no_corner = record { x = pos 0; y = pos 0; z = pos 0; w = pos 0; values = [] }
 
+-- the corner at place k of a triangle
 abbrev pub corner : List Vertex → ℕ → Vertex
 corner corners k = slice_index_or corners k no_corner
 

@@ -37,7 +37,8 @@ pub fn total(a: i128, b: i128, c: i128) -> i128
     requires b { IsWithin (2 ^ 120) b }
     requires c { IsWithin (2 ^ 120) c }
     ensures value { result ≡ a +ℤ b +ℤ c }
-    ensures near { (l m n : ℕ) → IsWithin l a → IsWithin m b → IsWithin n c → IsWithin (l + m + n) result }
+    ensures near { (l m n : ℕ) → IsWithin l a → IsWithin m b → IsWithin n c
+        → IsWithin (l + m + n) result }
 {
     a + b + c
 }

@@ -72,7 +72,8 @@ impl Shape {
     pub fn next_sums(&self, sums: &Sums) -> Sums
         requires shape { IsShape self.now }
         requires near { AreNearSums sums.now }
-        ensures { (x y : ℤ) → AreSumsAt self.now x y sums.now → AreSumsAt self.now (x +ℤ pos 1) y result }
+        ensures { (x y : ℤ) → AreSumsAt self.now x y sums.now
+            → AreSumsAt self.now (x +ℤ pos 1) y result }
     {
         Sums {
             one: stepped(sums.one, self.one.x),
@@ -85,7 +86,8 @@ impl Shape {
     fn covers(&self, sums: &Sums) -> bool
         requires shape { IsShape self.now }
         requires near { AreNearSums sums.now }
-        ensures covered { (x y : ℤ) → AreSumsAt self.now x y sums.now → result ≡ is_covered self.now.corners self.now.view x y }
+        ensures covered { (x y : ℤ) → AreSumsAt self.now x y sums.now
+            → result ≡ is_covered self.now.corners self.now.view x y }
         ensures not_negative { IsTrue result → AreNotNegative sums.now }
     {
         all_of(
