@@ -4,7 +4,9 @@ use Rattle.std.specs.Prelude.{nat_le, slice_get, unwrap_or}
 use Rattle.std.proofs.lemmas.Bool.{cond-true, cond-false, le-leb, lt-leb, cases_lt}
 use Rattle.std.proofs.lemmas.List.{get_or_past, at_drop_more}
 use Rattle.std.proofs.lemmas.Option.{slice_get-get_or, slice_get_past}
-use Rattle.gl_memory.specs.Segment.{Segment, byte_in, byte_at}
+use Rattle.std.specs.List.{All}
+use Rattle.std.proofs.lemmas.List.Elements.{All-nil, All-cons, All-from_get_or}
+use Rattle.gl_memory.specs.Segment.{Segment, byte_in, byte_at, AreBytes}
 use Rattle.gl_memory.specs.ClientMemory.{memory_of}
 use Rattle.gl_memory.specs.Laws.{ReadsFirst}
 
@@ -59,3 +61,15 @@ pub byte_at-drop : (list : List Segment) (index : ℕ) (item : Segment) (place :
 byte_at-drop list index item place within is =
     at_drop_more (λ (segments : List Segment). byte_at segments place) list index item within
     ∙ ap (λ (first : Segment). byte_at (first ∷ drop (index + 1) list) place) (sym is)
+
+-- client memory is made of bytes where each of its places has one
+pub AreBytes-memory_of : (bytes : List ℕ) → ((place : ℕ) → slice_index bytes place < 256) → AreBytes (memory_of bytes)
+AreBytes-memory_of bytes small =
+    let whole : Segment = record { start = 0; bytes = bytes } in
+    All-cons (λ (segment : Segment). All (λ byte. byte < 256) segment.bytes) whole []
+    (All-from_get_or (λ byte. byte < 256) bytes 0 (λ place below. small place))
+    (All-nil (λ (segment : Segment). All (λ byte. byte < 256) segment.bytes))
+
+-- and so is a memory without segments
+pub AreBytes-nil : AreBytes []
+AreBytes-nil = All-nil (λ (segment : Segment). All (λ byte. byte < 256) segment.bytes)

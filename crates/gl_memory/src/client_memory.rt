@@ -2,6 +2,7 @@
 
 ghost use Rattle.std.specs.Prelude.{◌≡◌, ◌^◌, ◌<◌, ◌≤◌, length, replicate, slice_index, IfOk};
 ghost use Rattle.gl_memory.specs.ClientMemory.{memory_of, written};
+ghost use Rattle.gl_memory.specs.Segment.{AreBytes};
 
 use crate::memory::Memory;
 use std::alloc::{AllocError as NoMemory, Global};
@@ -53,9 +54,12 @@ impl ClientMemory {
     /// All bytes.
     pub fn bytes(&self) -> &[u8]
         ensures bytes { result.now ≡ self.now }
+        ensures small { AreBytes (memory_of self.now) }
         ensures few { length result.now ≤ 1048576 }
     {
-        self.bytes.as_slice()
+        let bytes = self.bytes.as_slice();
+        are_bytes(bytes);
+        bytes
     }
 }
 
@@ -66,6 +70,11 @@ impl Memory for ClientMemory {
         byte_or_zero(self.bytes.as_slice(), at as usize)
     }
 }
+
+/// Does nothing. Its contract is what the type of bytes says of memory.
+fn are_bytes(bytes: &[u8])
+    ensures { AreBytes (memory_of bytes.now) }
+{}
 
 /// The byte at a place, and 0 where there is none.
 fn byte_or_zero(bytes: &[u8], at: usize) -> u8

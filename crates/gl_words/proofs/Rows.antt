@@ -1,5 +1,5 @@
 -- The table of calls read backwards and forwards, row by row.
-use Rattle.std.proofs.Common.{◌≡◌, ℕ, ℤ, pos, negsuc, Bool, true, false, cond, eqb, List, [], ◌∷◌, refl, sym, ap, arith, subst, Some, None, Option}
+use Rattle.std.proofs.Common.{◌≡◌, ℕ, ℤ, pos, negsuc, Bool, true, false, cond, eqb, List, [], ◌∷◌, length, refl, sym, ap, ◌∙◌, arith, subst, Some, None, Option}
 use Rattle.std.specs.Prelude.{FitsSigned}
 use Rattle.std.specs.Int.{FitsUnsigned, w32}
 use Rattle.std.specs.Option.{option_map}
@@ -7,7 +7,7 @@ use Rattle.std.proofs.lemmas.Bool.Decides.{nat_tests}
 use Rattle.std.proofs.lemmas.Bool.{eqb-true}
 use Rattle.std.proofs.lemmas.Option.{option_and_then_some}
 use Rattle.gl_words.specs.Call.{id_of, kinds_of, arguments, IsInRange}
-use Rattle.gl_words.specs.CallOf.{call_of, unsigned_of, signed_of, clear_of, clear_color_of, bare_of, CallOfLaw}
+use Rattle.gl_words.specs.CallOf.{call_of, argument_count, unsigned_of, signed_of, clear_of, clear_color_of, bare_of, CallOfLaw}
 use Rattle.gl_words.specs.declared.call.Call.{Call}
 use Rattle.gl_words.specs.declared.call.Call.TheVariants.{Clear, ClearColorx, Finish, Flush, GetError}
 
@@ -104,7 +104,33 @@ call_of-again Finish h = refl
 call_of-again Flush h = refl
 call_of-again GetError h = refl
 
+-- a call has this number, and so many arguments
+abbrev pub HasCount : ℕ → ℕ → Type 0
+HasCount id count = (call : Call) × (id_of call ≡ id) × (length (arguments call) ≡ count)
+
+counted : (id n count : ℕ) (call : Call) → eqb id n ≡ true → id_of call ≡ n → Some (length (arguments call)) ≡ Some count → HasCount id count
+counted id n count call e row h = (call, row ∙ sym (eqb-true id n e), cc)
+
+pub argument_count-is : (id count : ℕ) → argument_count id ≡ Some count → HasCount id count
+unfolding argument_count id_of arguments
+argument_count-is id count h =
+    by_test (eqb id 8) _ _ count h (λ e h. counted id 8 count (Clear 0) e refl h) (λ h.
+    by_test (eqb id 9) _ _ count h (λ e h. counted id 9 count (ClearColorx (pos 0) (pos 0) (pos 0) (pos 0)) e refl h) (λ h.
+    by_test (eqb id 27) _ _ count h (λ e h. counted id 27 count Finish e refl h) (λ h.
+    by_test (eqb id 28) _ _ count h (λ e h. counted id 28 count Flush e refl h) (λ h.
+    by_test (eqb id 33) _ _ count h (λ e h. counted id 33 count GetError e refl h) (λ h. absurd (cc))))))
+
+pub argument_count-again : (call : Call) → argument_count (id_of call) ≡ Some (length (arguments call))
+unfolding argument_count id_of arguments
+argument_count-again (Clear mask) = refl
+argument_count-again (ClearColorx red green blue alpha) = refl
+argument_count-again Finish = refl
+argument_count-again Flush = refl
+argument_count-again GetError = refl
+
 pub call_of-law : CallOfLaw
 call_of-law = (call_of-is, call_of-again)
 
 pub ruleset rows = (call_of-is, call_of-again)
+
+pub ruleset counts = (argument_count-is, argument_count-again)

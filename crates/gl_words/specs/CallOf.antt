@@ -41,6 +41,15 @@ call_of id args =
     if id == 28 then bare_of Flush args else (
     if id == 33 then bare_of GetError args else None))))
 
+-- how many arguments the call with this number has, where there is one; own
+unfoldable pub argument_count : ℕ → Option ℕ
+argument_count id =
+    if id == 8 then Some 1 else (
+    if id == 9 then Some 4 else (
+    if id == 27 then Some 0 else (
+    if id == 28 then Some 0 else (
+    if id == 33 then Some 0 else None))))
+
 -- what the table says backwards is what it says forwards, both ways
 abbrev pub CallOfLaw : Type 0
 CallOfLaw =

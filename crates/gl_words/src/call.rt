@@ -2,7 +2,7 @@
 
 ghost use Rattle.std.specs.Prelude.{◌≡◌, ◌<◌, ◌≤◌, ℕ, pos, List, [], ◌∷◌, length, IfSome, slice_get, Some};
 ghost use Rattle.gl_words.specs.Call.{name_of, id_of, arguments, IsInRange};
-ghost use Rattle.gl_words.specs.CallOf.{call_of, unsigned_of, signed_of, clear_of, clear_color_of, bare_of};
+ghost use Rattle.gl_words.specs.CallOf.{call_of, argument_count, unsigned_of, signed_of, clear_of, clear_color_of, bare_of};
 
 /// A call with its arguments, spelled as in OpenGL ES 1.1.12 without the prefix `gl`.
 #[derive(Clone, Copy, Debug, PartialEq, Eq)]
@@ -64,6 +64,29 @@ pub fn arg_count(call: &Call) -> usize
         Call::Clear { .. } => 1,
         Call::ClearColorx { .. } => 4,
         Call::Finish | Call::Flush | Call::GetError => 0,
+    }
+}
+
+/// How many arguments the call with this number has: 0 to 9. None exactly where no call has the number.
+#[tactic(auto, using(crate::proofs::Rows::counts))]
+pub fn arg_count_of(id: u16) -> Option<usize>
+    ensures gives { result ≡ argument_count id }
+    ensures found { IfSome result
+        (λ count. (call : Call) × (id_of call ≡ id) × (length (arguments call) ≡ count)) }
+    ensures only { (call : Call) → id_of call ≡ id → result ≡ Some (length (arguments call)) }
+{
+    count_from(id)
+}
+
+#[tactic(auto, unfolding(crate::specs::CallOf::argument_count))]
+fn count_from(id: u16) -> Option<usize>
+    ensures { result ≡ argument_count id }
+{
+    match id {
+        8 => Some(1),
+        9 => Some(4),
+        27 | 28 | 33 => Some(0),
+        _ => None,
     }
 }
 

@@ -9,7 +9,7 @@ mod shape;
 #[cfg(test)]
 mod tests;
 
-pub use call::{Call, arg_at, arg_count, call_from, call_id, call_name, in_range};
+pub use call::{Call, arg_at, arg_count, arg_count_of, call_from, call_id, call_name, in_range};
 pub use error::GlError;
 pub use laws::call_law;
 pub use names::number_of_enum;
