@@ -3,24 +3,26 @@ use Rattle.std.proofs.Common.{◌≡◌, ℕ, ◌+◌, ◌-◌, ◌<◌, ◌≤�
 use Rattle.std.proofs.lemmas.Bool.Decides.{nat_tests}
 use Rattle.std.proofs.lemmas.List.{append-nil, length-append}
 use Rattle.std.proofs.lemmas.List.Sums.{sum_by-append}
+use Rattle.gl_words.specs.Call.{IsInRange}
 use Rattle.gl_words.specs.declared.call.Call.{Call}
+use Rattle.gl_memory.specs.Piece.{cut}
 use Rattle.batch_pack.specs.declared.class.Class.{Class}
 use Rattle.batch_pack.specs.declared.class.Class.TheVariants.{Answer, Sync, Defer}
-use Rattle.batch_pack.specs.Spelling.{slots_of}
-use Rattle.batch_pack.specs.Batch.{Packing, empty_batch, slots_left}
-use Rattle.batch_pack.specs.Class.{class_of, is_flush}
-use Rattle.batch_pack.specs.Cutting.{batch_unless_empty, fits_behind, joined, cut_before, ended_by, open_by, ended_at, open_after, batches_from, is_class, count_of}
-use Rattle.batch_pack.proofs.Spellings.{few_slots}
+use Rattle.batch_pack.specs.Spelling.{Spelled, slots_of, HasSpelling}
+use Rattle.batch_pack.specs.Batch.{Packing, captured, empty_batch, slots_left}
+use Rattle.batch_pack.specs.Class.{is_flush}
+use Rattle.batch_pack.specs.Cutting.{Issued, issued, batch_unless_empty, fits_behind, joined, cut_before, ended_by, open_by, ended_at, open_after, batches_from, is_class, count_of}
+use Rattle.batch_pack.proofs.Spellings.{few_arguments}
 use Rattle.batch_pack.proofs.Packings.{slots_used-nil, slots_used-append, slots_used-one}
 use Rattle.batch_pack.proofs.Parsing.{some_slots}
 
 -- nothing more is called: the open batch ends, where it has calls
-pub batches_from-nil : (size : ℕ) (batch : List Call) → batches_from size batch [] ≡ batch_unless_empty batch
+pub batches_from-nil : (size : ℕ) (batch : List Spelled) → batches_from size batch [] ≡ batch_unless_empty batch
 unfolding batches_from
 batches_from-nil size batch = refl
 
 -- one call first: what ends at it, and then the others behind what is open after it
-pub batches_from-cons : (size : ℕ) (batch : List Call) (call : Call) (calls : List Call)
+pub batches_from-cons : (size : ℕ) (batch : List Spelled) (call : Issued) (calls : List Issued)
     → batches_from size batch (call ∷ calls) ≡ ended_at size batch call ++ batches_from size (open_after size batch call) calls
 unfolding batches_from
 batches_from-cons size batch call calls = refl
@@ -30,12 +32,31 @@ pub slots_left-empty : (size : ℕ) → slots_left (empty_batch size) ≡ size
 unfolding slots_left
 slots_left-empty size = omega (arith, slots_used-nil)
 
--- every call fits an empty batch
-pub fits_empty : (size : ℕ) (call : Call) → 16 ≤ size → slots_of call ≤ slots_left (empty_batch size)
+-- the spelling of a call with no memory captured for it is short
+pub few_slots : (call : Call) → slots_of (issued call).spelled ≤ 10
+unfolding slots_of
+few_slots call = omega (arith, few_arguments call)
+
+-- so it fits an empty batch
+pub fits_empty : (size : ℕ) (call : Call) → 16 ≤ size → slots_of (issued call).spelled ≤ slots_left (empty_batch size)
 fits_empty size call least = omega (arith, slots_left-empty size, few_slots call)
 
+-- and may be spelled, where its arguments are in range
+pub issued-HasSpelling : (call : Call) → IsInRange call → HasSpelling (issued call).spelled
+issued-HasSpelling call in_range = record {
+  in_range = in_range;
+  few = omega arith;
+  segments = tt;
+  short = omega (arith, few_slots call);
+}
+
+-- nothing is captured for a call without pieces
+pub captured-nil : (call : Call) (bytes : List ℕ) → captured call [] bytes ≡ (issued call).spelled
+unfolding cut
+captured-nil call bytes = refl
+
 -- a packed call takes its slots of those left
-pub slots_left-packed : (batch : Packing) (call : Call) → slots_left (record { size = batch.size; calls = batch.calls ++ call ∷ [] }) ≡ slots_left batch - slots_of call
+pub slots_left-packed : (batch : Packing) (call : Spelled) → slots_left (record { size = batch.size; calls = batch.calls ++ call ∷ [] }) ≡ slots_left batch - slots_of call
 unfolding slots_left
 slots_left-packed batch call = omega (arith, slots_used-append batch.calls (call ∷ []), slots_used-one call)
 
@@ -44,27 +65,27 @@ pub count_of-nil : (class : Class) → count_of class [] ≡ 0
 unfolding count_of
 count_of-nil class = refl
 
-pub count_of-append : (class : Class) (calls more : List Call) → count_of class (calls ++ more) ≡ count_of class calls + count_of class more
+pub count_of-append : (class : Class) (calls more : List Issued) → count_of class (calls ++ more) ≡ count_of class calls + count_of class more
 unfolding count_of
-count_of-append class calls more = sum_by-append (λ (call : Call). cond (is_class class (class_of call)) 1 0) calls more
+count_of-append class calls more = sum_by-append (λ (call : Issued). cond (is_class class call.class) 1 0) calls more
 
-pub count_of-one : (class : Class) (call : Call) → count_of class (call ∷ []) ≡ cond (is_class class (class_of call)) 1 0
+pub count_of-one : (class : Class) (call : Issued) → count_of class (call ∷ []) ≡ cond (is_class class call.class) 1 0
 unfolding count_of
-count_of-one class call = zero-add (cond (is_class class (class_of call)) 1 0)
+count_of-one class call = zero-add (cond (is_class class call.class) 1 0)
 
-pub count_of-cons : (class : Class) (call : Call) (calls : List Call) → count_of class (call ∷ calls) ≡ cond (is_class class (class_of call)) 1 0 + count_of class calls
+pub count_of-cons : (class : Class) (call : Issued) (calls : List Issued) → count_of class (call ∷ calls) ≡ cond (is_class class call.class) 1 0 + count_of class calls
 count_of-cons class call calls = count_of-append class (call ∷ []) calls ∙ ap (λ (n : ℕ). n + count_of class calls) (count_of-one class call)
 
-pub count_of-push : (class : Class) (calls : List Call) (call : Call) → count_of class (calls ++ call ∷ []) ≡ count_of class calls + cond (is_class class (class_of call)) 1 0
+pub count_of-push : (class : Class) (calls : List Issued) (call : Issued) → count_of class (calls ++ call ∷ []) ≡ count_of class calls + cond (is_class class call.class) 1 0
 count_of-push class calls call = count_of-append class calls (call ∷ []) ∙ ap (λ (n : ℕ). count_of class calls + n) (count_of-one class call)
 
 -- how many batches, with one call first
-pub length-batches_from-cons : (size : ℕ) (batch : List Call) (call : Call) (calls : List Call)
+pub length-batches_from-cons : (size : ℕ) (batch : List Spelled) (call : Issued) (calls : List Issued)
     → length (batches_from size batch (call ∷ calls)) ≡ length (ended_at size batch call) + length (batches_from size (open_after size batch call) calls)
 length-batches_from-cons size batch call calls =
     ap length (batches_from-cons size batch call calls) ∙ length-append (ended_at size batch call) (batches_from size (open_after size batch call) calls)
 
-module _ (size : ℕ) (batch : List Call) (call : Call) where
+module _ (size : ℕ) (batch : List Spelled) (call : Spelled) where
   fits_behind-fits : slots_of call ≤ slots_left (record { size = size; calls = batch }) → fits_behind size batch call ≡ true
   unfolding fits_behind slots_left
   fits_behind-fits fits =
@@ -75,70 +96,73 @@ module _ (size : ℕ) (batch : List Call) (call : Call) where
   unfolding fits_behind slots_left
   fits_behind-full full = grind (arith, nat_tests)
 
-  cut_before-fits : slots_of call ≤ slots_left (record { size = size; calls = batch }) → cut_before size batch call ≡ []
+  -- what ends before a deferred call, and what it joins
+  pub cut_before-fits : slots_of call ≤ slots_left (record { size = size; calls = batch }) → cut_before size batch call ≡ []
   unfolding cut_before
   cut_before-fits fits = ap (λ (b : Bool). cond b [] (batch_unless_empty batch)) (fits_behind-fits fits)
 
-  cut_before-full : slots_left (record { size = size; calls = batch }) < slots_of call → cut_before size batch call ≡ batch_unless_empty batch
+  pub cut_before-full : slots_left (record { size = size; calls = batch }) < slots_of call → cut_before size batch call ≡ batch_unless_empty batch
   unfolding cut_before
   cut_before-full full = ap (λ (b : Bool). cond b [] (batch_unless_empty batch)) (fits_behind-full full)
 
-  joined-fits : slots_of call ≤ slots_left (record { size = size; calls = batch }) → joined size batch call ≡ batch
+  pub joined-fits : slots_of call ≤ slots_left (record { size = size; calls = batch }) → joined size batch call ≡ batch
   unfolding joined
   joined-fits fits = ap (λ (b : Bool). cond b batch []) (fits_behind-fits fits)
 
-  joined-full : slots_left (record { size = size; calls = batch }) < slots_of call → joined size batch call ≡ []
+  pub joined-full : slots_left (record { size = size; calls = batch }) < slots_of call → joined size batch call ≡ []
   unfolding joined
   joined-full full = ap (λ (b : Bool). cond b batch []) (fits_behind-full full)
 
+module _ (size : ℕ) (batch : List Spelled) (call : Issued) where
   -- a call that is answered ends no batch and joins none
-  pub ended_at-answer : class_of call ≡ Answer → ended_at size batch call ≡ []
+  pub ended_at-answer : call.class ≡ Answer → ended_at size batch call ≡ []
   unfolding ended_at
-  ended_at-answer class = ap (λ (k : Class). ended_by k size batch call) class
+  ended_at-answer class = ap (λ (k : Class). ended_by k size batch call.spelled) class
 
-  pub open_after-answer : class_of call ≡ Answer → open_after size batch call ≡ batch
+  pub open_after-answer : call.class ≡ Answer → open_after size batch call ≡ batch
   unfolding open_after
-  open_after-answer class = ap (λ (k : Class). open_by k size batch call) class
+  open_after-answer class = ap (λ (k : Class). open_by k size batch call.spelled) class
 
   -- before a Sync call the open batch ends, and none is open after it
-  pub ended_at-sync : class_of call ≡ Sync → ended_at size batch call ≡ batch_unless_empty batch
+  pub ended_at-sync : call.class ≡ Sync → ended_at size batch call ≡ batch_unless_empty batch
   unfolding ended_at
-  ended_at-sync class = ap (λ (k : Class). ended_by k size batch call) class
+  ended_at-sync class = ap (λ (k : Class). ended_by k size batch call.spelled) class
 
-  pub open_after-sync : class_of call ≡ Sync → open_after size batch call ≡ []
+  pub open_after-sync : call.class ≡ Sync → open_after size batch call ≡ []
   unfolding open_after
-  open_after-sync class = ap (λ (k : Class). open_by k size batch call) class
+  open_after-sync class = ap (λ (k : Class). open_by k size batch call.spelled) class
 
-  ended_at-defer : class_of call ≡ Defer → ended_at size batch call ≡ cut_before size batch call ++ cond (is_flush call) ((joined size batch call ++ call ∷ []) ∷ []) []
+  -- at a deferred call the open batch ends where the call doesn't fit, and with the call where that is a Flush
+  pub ended_at-defer : call.class ≡ Defer → ended_at size batch call ≡ cut_before size batch call.spelled ++ cond (is_flush call.spelled.call) ((joined size batch call.spelled ++ call.spelled ∷ []) ∷ []) []
   unfolding ended_at
-  ended_at-defer class = ap (λ (k : Class). ended_by k size batch call) class
+  ended_at-defer class = ap (λ (k : Class). ended_by k size batch call.spelled) class
 
-  open_after-defer : class_of call ≡ Defer → open_after size batch call ≡ cond (is_flush call) [] (joined size batch call ++ call ∷ [])
+  pub open_after-defer : call.class ≡ Defer → open_after size batch call ≡ cond (is_flush call.spelled.call) [] (joined size batch call.spelled ++ call.spelled ∷ [])
   unfolding open_after
-  open_after-defer class = ap (λ (k : Class). open_by k size batch call) class
+  open_after-defer class = ap (λ (k : Class). open_by k size batch call.spelled) class
 
   -- a deferred call that fits joins the open batch
-  pub ended_at-fits : class_of call ≡ Defer → is_flush call ≡ false → slots_of call ≤ slots_left (record { size = size; calls = batch }) → ended_at size batch call ≡ []
-  ended_at-fits class flush fits = ended_at-defer class ∙ rw (flush, cut_before-fits fits) refl
+  pub ended_at-fits : call.class ≡ Defer → is_flush call.spelled.call ≡ false → slots_of call.spelled ≤ slots_left (record { size = size; calls = batch }) → ended_at size batch call ≡ []
+  ended_at-fits class flush fits = ended_at-defer class ∙ rw (flush, cut_before-fits size batch call.spelled fits) refl
 
-  pub open_after-fits : class_of call ≡ Defer → is_flush call ≡ false → slots_of call ≤ slots_left (record { size = size; calls = batch }) → open_after size batch call ≡ batch ++ call ∷ []
-  open_after-fits class flush fits = open_after-defer class ∙ rw (flush, joined-fits fits) refl
+  pub open_after-fits : call.class ≡ Defer → is_flush call.spelled.call ≡ false → slots_of call.spelled ≤ slots_left (record { size = size; calls = batch }) → open_after size batch call ≡ batch ++ call.spelled ∷ []
+  open_after-fits class flush fits = open_after-defer class ∙ rw (flush, joined-fits size batch call.spelled fits) refl
 
   -- one that doesn't ends the open batch, and begins the next
-  pub ended_at-full : class_of call ≡ Defer → is_flush call ≡ false → slots_left (record { size = size; calls = batch }) < slots_of call → ended_at size batch call ≡ batch_unless_empty batch
-  ended_at-full class flush full = ended_at-defer class ∙ rw (flush, cut_before-full full, append-nil) refl
+  pub ended_at-full : call.class ≡ Defer → is_flush call.spelled.call ≡ false → slots_left (record { size = size; calls = batch }) < slots_of call.spelled → ended_at size batch call ≡ batch_unless_empty batch
+  ended_at-full class flush full = ended_at-defer class ∙ rw (flush, cut_before-full size batch call.spelled full, append-nil) refl
 
-  pub open_after-full : class_of call ≡ Defer → is_flush call ≡ false → slots_left (record { size = size; calls = batch }) < slots_of call → open_after size batch call ≡ call ∷ []
-  open_after-full class flush full = open_after-defer class ∙ rw (flush, joined-full full) refl
+  pub open_after-full : call.class ≡ Defer → is_flush call.spelled.call ≡ false → slots_left (record { size = size; calls = batch }) < slots_of call.spelled → open_after size batch call ≡ call.spelled ∷ []
+  open_after-full class flush full = open_after-defer class ∙ rw (flush, joined-full size batch call.spelled full) refl
 
   -- a Flush that fits ends the open batch behind it
-  pub ended_at-flush-fits : class_of call ≡ Defer → is_flush call ≡ true → slots_of call ≤ slots_left (record { size = size; calls = batch }) → ended_at size batch call ≡ (batch ++ call ∷ []) ∷ []
-  ended_at-flush-fits class flush fits = ended_at-defer class ∙ rw (flush, cut_before-fits fits, joined-fits fits) refl
+  pub ended_at-flush-fits : call.class ≡ Defer → is_flush call.spelled.call ≡ true → slots_of call.spelled ≤ slots_left (record { size = size; calls = batch }) → ended_at size batch call ≡ (batch ++ call.spelled ∷ []) ∷ []
+  ended_at-flush-fits class flush fits = ended_at-defer class ∙ rw (flush, cut_before-fits size batch call.spelled fits, joined-fits size batch call.spelled fits) refl
 
   -- one that doesn't is a batch of its own
-  pub ended_at-flush-full : class_of call ≡ Defer → is_flush call ≡ true → slots_left (record { size = size; calls = batch }) < slots_of call → ended_at size batch call ≡ batch_unless_empty batch ++ (call ∷ []) ∷ []
-  ended_at-flush-full class flush full = ended_at-defer class ∙ rw (flush, cut_before-full full, joined-full full) refl
+  pub ended_at-flush-full : call.class ≡ Defer → is_flush call.spelled.call ≡ true → slots_left (record { size = size; calls = batch }) < slots_of call.spelled → ended_at size batch call ≡ batch_unless_empty batch ++ (call.spelled ∷ []) ∷ []
+  ended_at-flush-full class flush full = ended_at-defer class ∙ rw (flush, cut_before-full size batch call.spelled full, joined-full size batch call.spelled full) refl
 
   -- after a Flush none is open
-  pub open_after-flush : class_of call ≡ Defer → is_flush call ≡ true → open_after size batch call ≡ []
+  pub open_after-flush : call.class ≡ Defer → is_flush call.spelled.call ≡ true → open_after size batch call ≡ []
   open_after-flush class flush = open_after-defer class ∙ rw (flush) refl

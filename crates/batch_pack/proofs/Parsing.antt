@@ -1,42 +1,42 @@
 -- Slots that are the spellings of calls, and what is left of them after some were read.
-use Rattle.std.proofs.Common.{◌≡◌, ℕ, ◌<◌, ◌≤◌, List, [], ◌∷◌, ◌++◌, length, drop, refl, sym, ap, ◌∙◌, arith}
+use Rattle.std.proofs.Common.{◌≡◌, ℕ, ◌<◌, ◌≤◌, List, [], ◌∷◌, ◌++◌, length, map, drop, refl, sym, ap, ◌∙◌, arith}
 use Rattle.std.proofs.lemmas.List.{append-nil, append_assoc, append_cancel_left, length-append, drop_at, nil_from_length}
-use Rattle.gl_words.specs.declared.call.Call.{Call}
-use Rattle.gl_words.specs.Call.{IsInRange}
-use Rattle.batch_pack.specs.Spelling.{slots_of, spelling_of, spellings_of, AreInRange, AreSpellings}
-use Rattle.batch_pack.specs.Decoding.{calls_in}
+use Rattle.std.specs.List.{flat_map}
+use Rattle.gl_words.specs.Call.{arguments}
+use Rattle.batch_pack.specs.Spelling.{Spelled, slot_of, segment_spelling, slots_of, header_of, spelling_of, spellings_of, HasSpelling, HaveSpellings, AreSpellings}
+use Rattle.batch_pack.specs.Decoding.{slots_said, calls_in}
 use Rattle.batch_pack.specs.Holding.{AreReadable}
-use Rattle.batch_pack.proofs.Spellings.{length-spelling_of, same_first_call, spellings_of-append, spellings_of-cons, spellings_of-one, AreInRange-append, AreReadable-spelled, calls_in-spelled}
+use Rattle.batch_pack.proofs.Spellings.{length-spelling_of, spelling_of-append, slots_said-header_of, same_first_call, spellings_of-append, spellings_of-cons, spellings_of-one, HaveSpellings-append, AreReadable-spelled, calls_in-spelled}
 
 -- slots are the spellings of calls that were read, and the rest
 abbrev pub IsReadTo : List ℕ → List ℕ → Type 0
-IsReadTo slots rest = (read : List Call) × AreInRange read × (slots ≡ spellings_of read ++ rest)
+IsReadTo slots rest = (read : List Spelled) × HaveSpellings read × (slots ≡ spellings_of read ++ rest)
 
-pub long_enough : (rest more : List ℕ) (call : Call) → rest ≡ spelling_of call ++ more → slots_of call ≤ length rest
+pub long_enough : (rest more : List ℕ) (call : Spelled) → rest ≡ spelling_of call ++ more → slots_of call ≤ length rest
 long_enough rest more call spelled =
     let e = ap length spelled ∙ length-append (spelling_of call) more in
     omega (arith, length-spelling_of call)
 
-pub some_slots : (call : Call) → 1 ≤ slots_of call
+pub some_slots : (call : Spelled) → 1 ≤ slots_of call
 unfolding slots_of
 some_slots call = omega arith
 
-pub rest_behind : (rest more : List ℕ) (call : Call) → rest ≡ spelling_of call ++ more → drop (slots_of call) rest ≡ more
+pub rest_behind : (rest more : List ℕ) (call : Spelled) → rest ≡ spelling_of call ++ more → drop (slots_of call) rest ≡ more
 rest_behind rest more call spelled =
     ap (drop (slots_of call)) spelled ∙ drop_at (spelling_of call) more (slots_of call) (length-spelling_of call)
 
-pub less_left : (rest more : List ℕ) (call : Call) → rest ≡ spelling_of call ++ more → length (drop (slots_of call) rest) < length rest
+pub less_left : (rest more : List ℕ) (call : Spelled) → rest ≡ spelling_of call ++ more → length (drop (slots_of call) rest) < length rest
 less_left rest more call spelled =
     let e1 = ap length spelled ∙ length-append (spelling_of call) more in
     let e2 = ap length (rest_behind rest more call spelled) in
     omega (arith, length-spelling_of call, some_slots call)
 
-pub reads_one_more : (slots rest more : List ℕ) (call : Call) → IsReadTo slots rest → IsInRange call → rest ≡ spelling_of call ++ more → IsReadTo slots (drop (slots_of call) rest)
-reads_one_more slots rest more call before in_range spelled =
+pub reads_one_more : (slots rest more : List ℕ) (call : Spelled) → IsReadTo slots rest → HasSpelling call → rest ≡ spelling_of call ++ more → IsReadTo slots (drop (slots_of call) rest)
+reads_one_more slots rest more call before has spelled =
     let read = before.0 in
     let one = ap (λ (s : List ℕ). s ++ more) (spellings_of-append read (call ∷ []) ∙ ap (λ (s : List ℕ). spellings_of read ++ s) (spellings_of-one call)) in (
       read ++ call ∷ [],
-      AreInRange-append read (call ∷ []) (before.1) (in_range, tt),
+      HaveSpellings-append read (call ∷ []) (before.1) (has, tt),
       before.2
           ∙ ap (λ (s : List ℕ). spellings_of read ++ s) spelled
           ∙ sym (append_assoc (spellings_of read) (spelling_of call) more)
@@ -45,7 +45,7 @@ reads_one_more slots rest more call before in_range spelled =
     )
 
 -- what is left of spellings after some calls are spellings again
-later_calls : (read calls : List Call) (rest : List ℕ) → AreInRange read → AreInRange calls → spellings_of read ++ rest ≡ spellings_of calls → AreSpellings rest
+later_calls : (read calls : List Spelled) (rest : List ℕ) → HaveSpellings read → HaveSpellings calls → spellings_of read ++ rest ≡ spellings_of calls → AreSpellings rest
 later_calls [] calls rest h k same = (calls, k, unfold spellings_of in same)
 later_calls (call ∷ read) [] rest h k same =
     let e1 = ap length same in
@@ -58,13 +58,13 @@ later_calls (call ∷ read) (other ∷ calls) rest h k same =
     let both = sym left ∙ same ∙ spellings_of-cons other calls in
     let e = same_first_call call other (spellings_of read ++ rest) (spellings_of calls) (h.0) (k.0) both in
     later_calls read calls rest (h.1) (k.1)
-    (append_cancel_left (spelling_of call) (spellings_of read ++ rest) (spellings_of calls) (both ∙ ap (λ (c : Call). spelling_of c ++ spellings_of calls) (sym e)))
+    (append_cancel_left (spelling_of call) (spellings_of read ++ rest) (spellings_of calls) (both ∙ ap (λ (c : Spelled). spelling_of c ++ spellings_of calls) (sym e)))
 
 pub AreSpellings-rest : (slots rest : List ℕ) → IsReadTo slots rest → AreSpellings slots → AreSpellings rest
 AreSpellings-rest slots rest read all = later_calls (read.0) (all.0) rest (read.1) (all.1) (sym (read.2) ∙ all.2)
 
 -- where slots are spellings and there are some, they begin with one
-pub spelling_first : {P : Type 0} (rest : List ℕ) → AreSpellings rest → (length rest ≡ 0 → ⊥) → ((call : Call) (more : List ℕ) → IsInRange call → rest ≡ spelling_of call ++ more → P) → P
+pub spelling_first : {P : Type 0} (rest : List ℕ) → AreSpellings rest → (length rest ≡ 0 → ⊥) → ((call : Spelled) (more : List ℕ) → HasSpelling call → rest ≡ spelling_of call ++ more → P) → P
 spelling_first rest ([], h, e) some k =
     let none : length (spellings_of []) ≡ 0 = unfold spellings_of in refl in
     absurd (some (ap length e ∙ none))
@@ -83,23 +83,29 @@ unfolding spellings_of
 nothing_read slots = ([], tt, refl)
 
 spelled : (slots : List ℕ) → AreReadable slots → AreSpellings slots
-spelled slots readable = (calls_in slots, readable.in_range, readable.spelled)
+spelled slots readable = (calls_in slots, readable.have, readable.spelled)
 
 -- readable slots that begin with no spelling give no call
-pub calls_in-at_end : (slots : List ℕ) → AreReadable slots → ((call : Call) (more : List ℕ) → IsInRange call → slots ≡ spelling_of call ++ more → ⊥) → calls_in slots ≡ []
+pub calls_in-at_end : (slots : List ℕ) → AreReadable slots → ((call : Spelled) (more : List ℕ) → HasSpelling call → slots ≡ spelling_of call ++ more → ⊥) → calls_in slots ≡ []
 calls_in-at_end [] readable none = calls_in-spelled [] [] tt (unfold spellings_of in refl)
 calls_in-at_end (slot ∷ slots) readable none =
     absurd (spelling_first (slot ∷ slots) (spelled (slot ∷ slots) readable) (λ e. absurd (omega arith)) none)
 
-module _ (slots more : List ℕ) (call : Call) (readable : AreReadable slots) (in_range : IsInRange call) (begins : slots ≡ spelling_of call ++ more) where
+module _ (slots more : List ℕ) (call : Spelled) (readable : AreReadable slots) (has : HasSpelling call) (begins : slots ≡ spelling_of call ++ more) where
   -- readable slots without the first spelling
   pub AreReadable-rest : AreReadable (drop (slots_of call) slots)
   AreReadable-rest =
-      let one = reads_one_more slots slots more call (nothing_read slots) in_range begins in
+      let one = reads_one_more slots slots more call (nothing_read slots) has begins in
       AreReadable-spellings (drop (slots_of call) slots) (AreSpellings-rest slots (drop (slots_of call) slots) one (spelled slots readable))
 
   pub calls_in-first : calls_in slots ≡ call ∷ calls_in (drop (slots_of call) slots)
   calls_in-first =
       let rest = drop (slots_of call) slots in
       let whole = begins ∙ ap (λ (s : List ℕ). spelling_of call ++ s) (sym (rest_behind slots more call begins) ∙ AreReadable-rest.spelled) ∙ sym (spellings_of-cons call (calls_in rest)) in
-      calls_in-spelled slots (call ∷ calls_in rest) (in_range, AreReadable-rest.in_range) whole
+      calls_in-spelled slots (call ∷ calls_in rest) (has, AreReadable-rest.have) whole
+
+-- a header's count of slots is that of the spelling which it begins
+pub said_slots : (slots more : List ℕ) (call : Spelled) (said : ℕ) → HasSpelling call → slots ≡ spelling_of call ++ more
+    → ((header : ℕ) (rest : List ℕ) → slots ≡ header ∷ rest → said ≡ slots_said header) → said ≡ slots_of call
+said_slots slots more call said has begins says =
+    says (header_of call) (map slot_of (arguments call.call) ++ (flat_map segment_spelling call.segments ++ more)) (begins ∙ spelling_of-append call more) ∙ slots_said-header_of call has

@@ -1,16 +1,18 @@
--- Reading a spelling: the header first, then the arguments that it says there are.
-use Rattle.std.proofs.Common.{◌≡◌, ℕ, zero, suc, ◌+◌, ◌-◌, ◌*◌, ◌/◌, ◌%◌, ◌^◌, ◌<◌, ◌≤◌, ℤ, List, [], ◌∷◌, ◌++◌, length, map, take, drop, get_or, Fits, w64, refl, sym, ap, ◌∙◌, arith}
+-- Reading a spelling: the header first, then the arguments of the call that it names, then the segments.
+use Rattle.std.proofs.Common.{◌≡◌, ℕ, zero, suc, ◌+◌, ◌-◌, ◌^◌, ◌<◌, ◌≤◌, List, [], ◌∷◌, ◌++◌, length, map, take, drop, get_or, Fits, w64, refl, sym, ap, ◌∙◌, arith}
 use Rattle.std.specs.Int.{cast_signed}
+use Rattle.std.specs.List.{flat_map, AllByRecursion}
 use Rattle.std.proofs.lemmas.Int.{of_z-to_z}
-use Rattle.std.proofs.lemmas.List.{length-append, length-map, length-take-le, take_at, take-append-drop}
-use Rattle.std.proofs.lemmas.Nat.{div-add-mod'}
+use Rattle.std.proofs.lemmas.List.{length-append, length-map, take-append-drop}
 use Rattle.gl_words.specs.declared.call.Call.{Call}
 use Rattle.gl_words.specs.Call.{id_of, arguments, IsInRange}
-use Rattle.batch_pack.specs.Spelling.{slot_of, slots_of, header_of, spelling_of}
-use Rattle.batch_pack.proofs.Spellings.{header_of-slots, header_of-id, few_slots, arguments_back}
+use Rattle.gl_memory.specs.Segment.{Segment}
+use Rattle.batch_pack.specs.Spelling.{Spelled, slot_of, segment_spelling, IsSegment, slots_of, header_of, spelling_of, HasSpelling}
+use Rattle.batch_pack.specs.Decoding.{id_said, slots_said, segments_said}
+use Rattle.batch_pack.proofs.Spellings.{slots_of-parts, header_from_said, spelling_of-append, id_said-header_of, slots_said-header_of, segments_said-header_of}
 
 -- integers read from slots are put into these slots again
-map_forth : (n : ℕ) (slots : List ℕ) → ((i : ℕ) → Fits w64 (get_or slots i 0)) → map slot_of (map (cast_signed w64) (take n slots)) ≡ take n slots
+pub map_forth : (n : ℕ) (slots : List ℕ) → ((i : ℕ) → Fits w64 (get_or slots i 0)) → map slot_of (map (cast_signed w64) (take n slots)) ≡ take n slots
 unfolding slot_of
 map_forth zero slots fit = refl
 map_forth (suc n) [] fit = refl
@@ -18,61 +20,74 @@ map_forth (suc n) (slot ∷ slots) fit =
     ap (λ (x : ℕ). x ∷ map slot_of (map (cast_signed w64) (take n slots))) (of_z-to_z w64 slot (fit 0).fits)
     ∙ ap (λ (xs : List ℕ). slot ∷ xs) (map_forth n slots (λ i. fit (suc i)))
 
--- a header and slots begin with the spelling of the call that has the number and the arguments in them
-pub begins_with_call : (header : ℕ) (rest : List ℕ) (zs : List ℤ) (call : Call) → ((i : ℕ) → Fits w64 (get_or rest i 0))
-    → (header / 2 ^ 16 ≡ 0 → ⊥) → header / 2 ^ 16 - 1 ≤ length rest → zs ≡ map (cast_signed w64) (take (header / 2 ^ 16 - 1) rest)
-    → id_of call ≡ header % 2 ^ 16 → arguments call ≡ zs → header ∷ rest ≡ spelling_of call ++ drop (header / 2 ^ 16 - 1) rest
-unfolding spelling_of header_of slots_of
-begins_with_call header rest zs call fit some room read id same =
-    let n = header / 2 ^ 16 - 1 in
-    let back = ap (map slot_of) (same ∙ read) ∙ map_forth n rest fit in
-    let many = ap length (same ∙ read) ∙ length-map (take n rest) (cast_signed w64) ∙ length-take-le n rest room in
-    let split = div-add-mod' header (2 ^ 16) in
-    let head : header ≡ id_of call + 2 ^ 16 * (1 + length (arguments call)) = omega arith in
-    let tail = sym (take-append-drop n rest) ∙ ap (λ (s : List ℕ). s ++ drop n rest) (sym back) in
-    ap (λ (h : ℕ). h ∷ rest) head ∙ ap (λ (s : List ℕ). (id_of call + 2 ^ 16 * (1 + length (arguments call))) ∷ s) tail
+-- slots begin with the arguments that are read from them
+pub begins_with_arguments : (n : ℕ) (slots : List ℕ) (call : Call) → ((i : ℕ) → Fits w64 (get_or slots i 0)) → arguments call ≡ map (cast_signed w64) (take n slots)
+    → slots ≡ map slot_of (arguments call) ++ drop n slots
+begins_with_arguments n slots call fit same =
+    sym (take-append-drop n slots) ∙ ap (λ (s : List ℕ). s ++ drop n slots) (sym (ap (map slot_of) same ∙ map_forth n slots fit))
 
-module _ (header : ℕ) (rest more : List ℕ) (call : Call) (in_range : IsInRange call) (spelled : header ∷ rest ≡ spelling_of call ++ more) where
-  -- what slots say that begin with the spelling of a call
-  pub header_is : header ≡ header_of call
-  unfolding spelling_of
-  header_is = cc
+small_slots : (header : ℕ) → slots_said header < 2 ^ 32
+unfolding slots_said
+small_slots header = omega arith
 
-  pub rest_is : rest ≡ map slot_of (arguments call) ++ more
-  unfolding spelling_of
-  rest_is = cc
+-- a header, arguments and segments as it says, and as many slots, are a spelling
+module _ (header : ℕ) (rest behind left : List ℕ) (call : Call) (segments : List Segment) where
+  abbrev read : Spelled
+  read = record { call = call; segments = segments }
 
-  pub count_is : header / 2 ^ 16 ≡ slots_of call
-  count_is = ap (λ (n : ℕ). n / 2 ^ 16) header_is ∙ header_of-slots call
+  -- how many slots were read before those that are left
+  pub slots-read : rest ≡ map slot_of (arguments call) ++ behind → behind ≡ flat_map segment_spelling segments ++ left → 1 + (length rest - length left) ≡ slots_of read
+  slots-read arguments_first segments_next =
+      let e1 = ap length arguments_first ∙ length-append (map slot_of (arguments call)) behind in
+      let e2 = ap length segments_next ∙ length-append (flat_map segment_spelling segments) left in
+      omega (arith, length-map (arguments call) slot_of, slots_of-parts read)
 
-  pub id_is : header % 2 ^ 16 ≡ id_of call
-  id_is = ap (λ (n : ℕ). n % 2 ^ 16) header_is ∙ header_of-id call
+  module _ (in_range : IsInRange call) (id : id_of call ≡ id_said header) (arguments_first : rest ≡ map slot_of (arguments call) ++ behind)
+      (are : AllByRecursion IsSegment segments) (many : length segments ≡ segments_said header) (segments_next : behind ≡ flat_map segment_spelling segments ++ left)
+      (few : segments_said header ≤ 8) (slots : 1 + (length rest - length left) ≡ slots_said header) where
+    slots-said : slots_said header ≡ slots_of read
+    slots-said = sym slots ∙ slots-read arguments_first segments_next
 
-  pub count_is_one_more : header / 2 ^ 16 ≡ 1 + length (arguments call)
-  unfolding slots_of
-  count_is_one_more = count_is
+    pub read-HasSpelling : HasSpelling read
+    read-HasSpelling = record {
+      in_range = in_range;
+      few = omega (arith, many);
+      segments = are;
+      short = omega (arith, slots-said, small_slots header);
+    }
 
-  pub not_none : header / 2 ^ 16 ≡ 0 → ⊥
-  not_none e = absurd (omega (arith, count_is_one_more))
+    pub read-spelled : header ∷ rest ≡ spelling_of read ++ left
+    read-spelled =
+        ap (λ (h : ℕ). h ∷ rest) (header_from_said header read (sym id) slots-said (sym many))
+        ∙ ap (λ (s : List ℕ). header_of read ∷ s) (arguments_first ∙ ap (λ (s : List ℕ). map slot_of (arguments call) ++ s) segments_next)
+        ∙ sym (spelling_of-append read left)
 
-  pub not_many : header / 2 ^ 16 ≤ 10
-  not_many = omega (arith, count_is, few_slots call)
+-- what slots say that begin with a spelling
+module _ (header : ℕ) (rest more : List ℕ) (spelled : Spelled) (has : HasSpelling spelled) (begins : header ∷ rest ≡ spelling_of spelled ++ more) where
+  written_out : header ∷ rest ≡ header_of spelled ∷ (map slot_of (arguments spelled.call) ++ (flat_map segment_spelling spelled.segments ++ more))
+  written_out = begins ∙ spelling_of-append spelled more
 
-  pub has_arguments : header / 2 ^ 16 - 1 ≤ length rest
-  has_arguments =
-      let e = ap length rest_is ∙ length-append (map slot_of (arguments call)) more in
-      omega (arith, count_is_one_more, length-map (arguments call) slot_of)
+  header_is : header ≡ header_of spelled
+  header_is = let e = written_out in cc
 
-  pub arguments_are : map (cast_signed w64) (take (header / 2 ^ 16 - 1) rest) ≡ arguments call
-  arguments_are =
-      let many : length (map slot_of (arguments call)) ≡ header / 2 ^ 16 - 1 = omega (arith, count_is_one_more, length-map (arguments call) slot_of) in
-      ap (λ (s : List ℕ). map (cast_signed w64) (take (header / 2 ^ 16 - 1) s)) rest_is
-      ∙ ap (map (cast_signed w64)) (take_at (map slot_of (arguments call)) more (header / 2 ^ 16 - 1) many)
-      ∙ arguments_back call in_range
+  pub rest_is : rest ≡ map slot_of (arguments spelled.call) ++ (flat_map segment_spelling spelled.segments ++ more)
+  rest_is = let e = written_out in cc
+
+  pub id_is : id_of spelled.call ≡ id_said header
+  id_is = sym (ap id_said header_is ∙ id_said-header_of spelled)
+
+  pub slots_is : slots_said header ≡ slots_of spelled
+  slots_is = ap slots_said header_is ∙ slots_said-header_of spelled has
+
+  pub segments_is : length spelled.segments ≡ segments_said header
+  segments_is = sym (ap segments_said header_is ∙ segments_said-header_of spelled has)
+
+  pub few_said : segments_said header ≤ 8
+  few_said = omega (arith, segments_is, has.few)
 
 -- a spelling has a slot at least
-pub not_empty : (slots more : List ℕ) (call : Call) → slots ≡ spelling_of call ++ more → length slots < 1 → ⊥
+pub not_empty : (slots more : List ℕ) (spelled : Spelled) → slots ≡ spelling_of spelled ++ more → length slots < 1 → ⊥
 unfolding spelling_of
-not_empty slots more call spelled short =
-    let e = ap length spelled in
+not_empty slots more spelled begins short =
+    let e = ap length begins in
     absurd (omega arith)

@@ -1,12 +1,12 @@
 -- What every reader and every batch keeps of its slots; own.
 use Rattle.std.specs.Prelude.{◌≡◌, ℕ, ◌≤◌, List, length}
-use Rattle.batch_pack.specs.Spelling.{spellings_of, AreInRange}
+use Rattle.batch_pack.specs.Spelling.{spellings_of, HaveSpellings}
 use Rattle.batch_pack.specs.Decoding.{calls_in}
 use Rattle.batch_pack.specs.Batch.{IsBatchSize}
 
--- slots are the spellings of the calls that are read from them, and these are in range; own
+-- slots are the spellings of the calls that are read from them; own
 pub record AreReadable (slots : List ℕ) : Type 0 where
-  pub in_range : AreInRange (calls_in slots)
+  pub have : HaveSpellings (calls_in slots)
   pub spelled : slots ≡ spellings_of (calls_in slots)
 
 -- a batch's slots are spellings, at most as many as its size, and its room is enough for its size; own

@@ -4,4 +4,5 @@ pub mod Batch
 pub mod Class
 pub mod Cutting
 pub mod Holding
+pub mod Packed
 pub use Rattle.gl_words.specs.Call

@@ -1,13 +1,15 @@
 //! A batch: slots of eight bytes that hold the spellings of calls. It takes no memory after it was made.
 
-ghost use Rattle.std.specs.Prelude.{◌≡◌, ◌+◌, ◌<◌, ◌≤◌, ◌↔◌, [], ◌∷◌, ◌++◌, length, vec_capacity, IfOk, IsErr, OnOk, OnErr};
-ghost use Rattle.batch_pack.specs.Batch.{IsBatchSize, empty_batch, slots_used, slots_left};
-ghost use Rattle.batch_pack.specs.Spelling.{slots_of, spelling_of, AreInRange};
+ghost use Rattle.std.specs.Prelude.{◌≡◌, ◌<◌, ◌≤◌, ◌↔◌, [], ◌∷◌, ◌++◌, IfOk, IsErr, OnOk, OnErr};
+ghost use Rattle.batch_pack.specs.Batch.{IsBatchSize, captured, empty_batch, slots_used, slots_left};
+ghost use Rattle.batch_pack.specs.Spelling.{slots_of, HaveSpellings};
 
 use crate::fault::Full;
 use crate::reader::{Reader, reader_of};
-use crate::spelling::{header, spelling_slots};
-use gl_words::{Call, arg_at, arg_count, in_range};
+use crate::spelling::spelling_slots;
+use crate::writer::spell;
+use gl_memory::{ClientMemory, Pieces};
+use gl_words::Call;
 use std::alloc::{AllocError as NoMemory, Global};
 use std::marker::Model;
 
@@ -43,18 +45,25 @@ impl Batch {
         })
     }
 
-    /// Puts a call behind the others.
-    pub fn try_pack(&mut self, call: &Call) -> Result<(), Full>
-        ensures ok { OnOk result
-            (self.new ≡ record self.old { calls = self.old.calls ++ call.now ∷ [] }) }
-        ensures full { IsErr result ↔ (slots_left self.old < slots_of call.now) }
+    /// Puts a call behind the others, with a segment of client memory's bytes for each piece, and zeros past its end.
+    /// Full exactly where the spelling has more slots than are left; the batch is then as before.
+    pub fn try_pack(
+        &mut self,
+        call: &Call,
+        pieces: &Pieces,
+        memory: &ClientMemory,
+    ) -> Result<(), Full>
+        ensures ok { OnOk result (self.new ≡ record self.old
+            { calls = self.old.calls ++ captured call.now pieces.now memory.now ∷ [] }) }
+        ensures full { IsErr result
+            ↔ (slots_left self.old < slots_of (captured call.now pieces.now memory.now)) }
         ensures err { OnErr result (self.new ≡ self.old) }
     {
-        in_range(call);
-        if u64::from(self.size) - (self.slots.len() as u64) < spelling_slots(call) {
+        let count = spelling_slots(call, pieces);
+        if u64::from(self.size) - (self.slots.len() as u64) < count {
             return Err(Full);
         }
-        spell(&mut self.slots, call);
+        spell(&mut self.slots, call, pieces, memory.bytes(), count);
         Ok(())
     }
 
@@ -84,20 +93,8 @@ impl Batch {
     /// A reader of the calls, in order.
     pub fn reader(&self) -> Reader<'_>
         ensures calls { result ≡ self.now.calls }
-        ensures in_range { AreInRange self.now.calls }
+        ensures spellings { HaveSpellings self.now.calls }
     {
         reader_of(self.slots.as_slice())
-    }
-}
-
-/// Puts the spelling of a call behind the other slots.
-fn spell(slots: &mut Vec<u64>, call: &Call)
-    requires room { length slots.old.items + slots_of call.now ≤ vec_capacity slots.old }
-    ensures spelled { slots.new.items ≡ slots.old.items ++ spelling_of call.now }
-    ensures same_room { vec_capacity slots.new ≡ vec_capacity slots.old }
-{
-    slots.push_reserved(header(call));
-    for at in 0..arg_count(call) {
-        slots.push_reserved(arg_at(call, at).cast_unsigned());
     }
 }

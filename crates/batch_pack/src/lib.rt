@@ -3,16 +3,20 @@
 
 mod batch;
 mod class;
+mod decoder;
 mod fault;
 mod laws;
+mod packed;
 mod reader;
 mod spelling;
 #[cfg(test)]
 mod tests;
+mod writer;
 
 pub use batch::Batch;
 pub use class::{Class, call_class, sends_batch};
 pub use fault::{BadSlots, Full};
 pub use laws::spelling_law;
-pub use reader::{Packed, Reader, parse};
+pub use packed::Packed;
+pub use reader::{Reader, parse};
 pub use spelling::spelling_slots;

@@ -4,15 +4,19 @@ use Rattle.gl_words.specs.declared.call.Call.{Call}
 use Rattle.batch_pack.specs.declared.class.Class.{Class}
 use Rattle.batch_pack.specs.declared.class.Class.TheVariants.{Answer, Sync, Defer}
 use Rattle.batch_pack.specs.Cutting.{batch_unless_empty}
-use Rattle.gl_front.specs.declared.driver.Reply.{Reply}
+use Rattle.batch_pack.specs.Spelling.{Spelled}
+use Rattle.gl_memory.specs.ClientMemory.{memory_of}
+use Rattle.driver_trait.specs.Driver.{Steps}
+use Rattle.driver_trait.specs.Reply.{Replied}
 use Rattle.gl_front.specs.declared.counts.Counts.{Counts}
-use Rattle.gl_front.specs.Driver.{RunsFrom}
-use Rattle.gl_front.specs.Rail.{Told}
+use Rattle.batch_rail.specs.Run.{RunsFrom}
+use Rattle.batch_rail.specs.Rail.{Told}
 
--- a front: its rail, the calls of the open batch, whether an issue was refused, and its counts; own
+-- a front: its rail, the calls of the open batch with what was captured for them, client memory, whether an issue was refused, and its counts; own
 pub record Fronting (R : Type 0) : Type 0 where
   pub rail : R
-  pub calls : List Call
+  pub calls : List Spelled
+  pub memory : List ℕ
   pub refused : Bool
   pub counts : Counts
 
@@ -20,17 +24,17 @@ pub record Fronting (R : Type 0) : Type 0 where
 abbrev pub no_counts : Counts
 no_counts = record { deferred = 0; synchronised = 0; answered = 0; batches = 0 }
 
--- a front over a rail, with nothing done yet; own
-abbrev pub new_front : {R : Type 0} → R → Fronting R
-new_front rail = record { rail = rail; calls = []; refused = false; counts = no_counts }
+-- a front over a rail and client memory, with nothing done yet; own
+abbrev pub new_front : {R : Type 0} → R → List ℕ → Fronting R
+new_front rail memory = record { rail = rail; calls = []; memory = memory; refused = false; counts = no_counts }
 
 -- a state for which a front may stand: one to which a state of its rail leads by the calls of the open batch; own
-abbrev pub StandsFor : {R S : Type 0} → (R → S → Type 0) → (S → Call → S → Reply → Type 0) → Fronting R → S → Type 0
+abbrev pub StandsFor : {R S : Type 0} → (R → S → Type 0) → Steps S → Fronting R → S → Type 0
 StandsFor stands steps front st2 = RunsFrom (stands front.rail) steps front.calls st2
 
--- each state for which the new front may stand is one to which the call leads, with this reply, from a state for which the old one may; own
-abbrev pub CarriesOut : {R S : Type 0} → (R → S → Type 0) → (S → Call → S → Reply → Type 0) → Fronting R → Fronting R → Call → Reply → Type 0
-CarriesOut {R} {S} stands steps old new call reply = (st2 : S) → StandsFor stands steps new st2 → (st : S) × StandsFor stands steps old st × steps st call st2 reply
+-- each state for which the new front may stand is one to which the call leads on client memory as it was, with this reply, from a state for which the old one may; own
+abbrev pub CarriesOut : {R S : Type 0} → (R → S → Type 0) → Steps S → Fronting R → Fronting R → Call → Replied → Type 0
+CarriesOut {R} {S} stands steps old new call reply = (st2 : S) → StandsFor stands steps new st2 → (st : S) × StandsFor stands steps old st × steps st call (memory_of old.memory) st2 reply
 
 -- the counts after a call of a class, at which so many batches ended; own
 abbrev pub counts_after : Counts → Class → ℕ → Counts
@@ -42,11 +46,12 @@ counts_after counts Defer ended = record counts { deferred = counts.deferred + 1
 abbrev pub counts_flushed : Counts → ℕ → Counts
 counts_flushed counts ended = record counts { batches = counts.batches + ended }
 
--- the open batch was submitted unless it was empty, and nothing else was counted or told; own
-pub record StopsAtCall {R : Type 0} (journal_before journal_after : Option (List (List Call))) (old new : Fronting R) : Type 0 where
+-- the open batch was submitted unless it was empty, and nothing else was counted, told or written; own
+pub record StopsAtCall {R : Type 0} (journal_before journal_after : Option (List (List Spelled))) (old new : Fronting R) : Type 0 where
   pub open_batch : new.calls ≡ []
   pub counts : new.counts ≡ counts_flushed old.counts (length (batch_unless_empty old.calls))
   pub journal : Told journal_before journal_after (batch_unless_empty old.calls)
+  pub memory : new.memory ≡ old.memory
 
 -- a count rises by at most two, and never falls; own
 pub record RisesLittle (old new : ℕ) : Type 0 where

@@ -1,10 +1,10 @@
 -- What the fields of a front keep.
 use Rattle.std.specs.Prelude.{◌≡◌, ℕ, List, [], Option, Some, None, MatchOption}
-use Rattle.gl_words.specs.declared.call.Call.{Call}
+use Rattle.batch_pack.specs.Spelling.{Spelled}
 use Rattle.batch_pack.specs.Batch.{Packing, IsBatchSize}
 
 -- the calls of the open batch, which is there between two calls of a front
-abbrev pub open_calls : Option Packing → List Call
+abbrev pub open_calls : Option Packing → List Spelled
 open_calls None = []
 open_calls (Some batch) = batch.calls
 

@@ -5,28 +5,30 @@ ghost use Rattle.gl_words.specs.declared.call.Call.{Call};
 ghost use Rattle.batch_pack.specs.declared.class.Class.TheVariants.{Answer, Sync, Defer};
 ghost use Rattle.batch_pack.specs.Batch.{IsBatchSize};
 ghost use Rattle.batch_pack.specs.Class.{class_of};
-ghost use Rattle.batch_pack.specs.Cutting.{batch_unless_empty, ended_at, open_after};
-ghost use Rattle.gl_front.specs.declared.driver.Reply.{Reply};
-ghost use Rattle.gl_front.specs.declared.driver.Reply.TheVariants.{Nothing};
-ghost use Rattle.gl_front.specs.Rail.{Told, StandsForNoMore};
+ghost use Rattle.batch_pack.specs.Cutting.{batch_unless_empty, ended_at, issued, open_after};
+ghost use Rattle.batch_rail.specs.Rail.{Told, StandsForNoMore};
+ghost use Rattle.driver_trait.specs.Reply.{Nothing, replied};
+ghost use Rattle.gl_memory.specs.ClientMemory.{written};
 ghost use Rattle.gl_front.specs.Front.{Fronting, new_front, StandsFor, CarriesOut, counts_after, counts_flushed, StopsAtCall, AllRiseLittle, RisesLittle, AllHaveRoom, HasRoom};
 
 use crate::counts::Counts;
-use crate::driver::{Driver, Reply};
-use crate::rail::Rail;
 use crate::steps::{await_all, carry_out, put_off, submit_unless_empty};
 use batch_pack::{Batch, Class, call_class};
+use batch_rail::Rail;
+use driver_trait::{Driver, Reply};
+use gl_memory::ClientMemory;
 use gl_words::{Call, in_range};
 use std::alloc::{AllocError, AllocError as NoMemory, Global};
 use std::marker::{Model, PhantomData};
 use std::thread::Threads;
 
-/// A front over a rail; own. Contracts see its rail, the calls of its open batch, whether an issue was
-/// refused, and its counts.
+/// A front over a rail; own. Contracts see its rail, the calls of its open batch with what was captured for
+/// them, the bytes of client memory, whether an issue was refused, and its counts.
 #[derive(Drop)]
 pub struct Front<D: Driver, R: Rail<D>> {
     rail: R,
     batch: Option<Batch>,
+    memory: ClientMemory,
     refused: bool,
     counts: Counts,
     driver: PhantomData<D>,
@@ -41,6 +43,7 @@ impl<D: Driver, R: Rail<D>> Model for Front<D, R> {
     ghost view = { λ f. record {
       rail = f.rail;
       calls = open_calls f.batch;
+      memory = f.memory;
       refused = f.refused;
       counts = f.counts;
     } };
@@ -49,17 +52,23 @@ impl<D: Driver, R: Rail<D>> Model for Front<D, R> {
 }
 
 impl<D: Driver, R: Rail<D>> Front<D, R> {
-    /// A front over a rail, with an empty batch of the rail's size. Want of memory gives the rail back.
-    pub fn new(alloc: Global, rail: R) -> Result<Self, (R, NoMemory)>
+    /// A front over a rail and client memory, with an empty batch of the rail's size. Want of memory gives
+    /// both back.
+    pub fn new(
+        alloc: Global,
+        rail: R,
+        memory: ClientMemory,
+    ) -> Result<Self, (R, ClientMemory, NoMemory)>
         requires home { R.home rail }
         requires size { IsBatchSize (R.size rail) }
-        ensures ok { IfOk result (λ front. front ≡ new_front rail) }
-        ensures err { IfErr result (λ refusal. refusal.0 ≡ rail) }
+        ensures ok { IfOk result (λ front. front ≡ new_front rail memory) }
+        ensures err { IfErr result (λ refusal. (refusal.0 ≡ rail) × (refusal.1 ≡ memory)) }
     {
         match Batch::new(alloc, rail.slots()) {
             Ok(batch) => Ok(Front {
                 rail,
                 batch: Some(batch),
+                memory,
                 refused: false,
                 counts: Counts {
                     deferred: 0,
@@ -69,7 +78,7 @@ impl<D: Driver, R: Rail<D>> Front<D, R> {
                 },
                 driver: PhantomData,
             }),
-            Err(refusal) => Err((rail, refusal)),
+            Err(refusal) => Err((rail, memory, refusal)),
         }
     }
 
@@ -79,17 +88,19 @@ impl<D: Driver, R: Rail<D>> Front<D, R> {
         requires sent { HasRoom (R.sent self.old.rail) }
         // the reply is the driver's, and no other state is stood for
         ensures ok { IfOk result
-            (λ reply. CarriesOut R.stands D.steps self.old self.new call.now reply) }
+            (λ reply. CarriesOut R.stands D.steps self.old self.new call.now (replied reply)) }
         ensures open_batch { OnOk result
-            (self.new.calls ≡ open_after (R.size self.old.rail) self.old.calls call.now) }
+            (self.new.calls ≡ open_after (R.size self.old.rail) self.old.calls (issued call.now)) }
         ensures counts { OnOk result
             (self.new.counts ≡ counts_after self.old.counts (class_of call.now)
-            (length (ended_at (R.size self.old.rail) self.old.calls call.now))) }
+            (length (ended_at (R.size self.old.rail) self.old.calls (issued call.now)))) }
         ensures journal { OnOk result (Told (R.journal self.old.rail) (R.journal self.new.rail)
-            (ended_at (R.size self.old.rail) self.old.calls call.now)) }
+            (ended_at (R.size self.old.rail) self.old.calls (issued call.now))) }
+        ensures memory { self.new.memory ≡ self.old.memory }
         // a refusal adds no state and is never forgotten; only a call that waits meets the first
         ensures err { OnErr result
-            (StandsForNoMore (StandsFor R.stands D.steps self.old) (StandsFor R.stands D.steps self.new)) }
+            (StandsForNoMore (StandsFor R.stands D.steps self.old)
+            (StandsFor R.stands D.steps self.new)) }
         ensures stopped { self.old.refused ≡ false → OnErr result
             (StopsAtCall (R.journal self.old.rail) (R.journal self.new.rail) self.old self.new) }
         ensures marked { OnErr result (self.new.refused ≡ true) }
@@ -121,21 +132,23 @@ impl<D: Driver, R: Rail<D>> Front<D, R> {
         requires sent { HasRoom (R.sent self.old.rail) }
         ensures carries { CarriesOut R.stands D.steps self.old self.new call.now Nothing }
         ensures open_batch { self.new.calls
-            ≡ open_after (R.size self.old.rail) self.old.calls call.now }
+            ≡ open_after (R.size self.old.rail) self.old.calls (issued call.now) }
         ensures counts { self.new.counts ≡ counts_after self.old.counts Defer
-            (length (ended_at (R.size self.old.rail) self.old.calls call.now)) }
+            (length (ended_at (R.size self.old.rail) self.old.calls (issued call.now))) }
         ensures journal { Told (R.journal self.old.rail) (R.journal self.new.rail)
-            (ended_at (R.size self.old.rail) self.old.calls call.now) }
+            (ended_at (R.size self.old.rail) self.old.calls (issued call.now)) }
+        ensures memory { self.new.memory ≡ self.old.memory }
         ensures mark { self.new.refused ≡ self.old.refused }
         ensures size { R.size self.new.rail ≡ R.size self.old.rail }
         ensures sent { RisesLittle (R.sent self.old.rail) (R.sent self.new.rail) }
         ensures rises { AllRiseLittle self.old.counts self.new.counts }
     {
         in_range(call);
+        self.memory.bytes();
         let Some(batch) = self.batch.take() else {
             return;
         };
-        let (batch, sent) = put_off(rt, &mut self.rail, batch, call);
+        let (batch, sent) = put_off(rt, &mut self.rail, batch, call, &self.memory);
         self.batch = Some(batch);
         self.counts.deferred += 1;
         self.counts.batches += sent;
@@ -146,7 +159,7 @@ impl<D: Driver, R: Rail<D>> Front<D, R> {
         requires counts { AllHaveRoom self.old.counts }
         requires sent { HasRoom (R.sent self.old.rail) }
         ensures ok { IfOk result
-            (λ reply. CarriesOut R.stands D.steps self.old self.new call.now reply) }
+            (λ reply. CarriesOut R.stands D.steps self.old self.new call.now (replied reply)) }
         ensures open_batch { self.new.calls ≡ [] }
         ensures counts { OnOk result (self.new.counts ≡ counts_after self.old.counts Sync
             (length (batch_unless_empty self.old.calls))) }
@@ -155,7 +168,9 @@ impl<D: Driver, R: Rail<D>> Front<D, R> {
         ensures journal { Told (R.journal self.old.rail) (R.journal self.new.rail)
             (batch_unless_empty self.old.calls) }
         ensures err { OnErr result
-            (StandsForNoMore (StandsFor R.stands D.steps self.old) (StandsFor R.stands D.steps self.new)) }
+            (StandsForNoMore (StandsFor R.stands D.steps self.old)
+            (StandsFor R.stands D.steps self.new)) }
+        ensures memory { self.new.memory ≡ self.old.memory }
         ensures marked { OnErr result (self.new.refused ≡ true) }
         ensures unmarked { OnOk result (self.new.refused ≡ self.old.refused) }
         ensures size { R.size self.new.rail ≡ R.size self.old.rail }
@@ -163,7 +178,7 @@ impl<D: Driver, R: Rail<D>> Front<D, R> {
         ensures rises { AllRiseLittle self.old.counts self.new.counts }
     {
         self.flush(rt);
-        let reply = carry_out(rt, &mut self.rail, call);
+        let reply = carry_out(rt, &mut self.rail, call, &self.memory);
         match &reply {
             Ok(_) => self.counts.synchronised += 1,
             Err(_) => self.refused = true,
@@ -182,6 +197,7 @@ impl<D: Driver, R: Rail<D>> Front<D, R> {
             ≡ counts_flushed self.old.counts (length (batch_unless_empty self.old.calls)) }
         ensures journal { Told (R.journal self.old.rail) (R.journal self.new.rail)
             (batch_unless_empty self.old.calls) }
+        ensures memory { self.new.memory ≡ self.old.memory }
         ensures mark { self.new.refused ≡ self.old.refused }
         ensures failed { R.failed self.new.rail → R.failed self.old.rail ⊎ (self.old.calls ≢ []) }
         ensures size { R.size self.new.rail ≡ R.size self.old.rail }
@@ -209,12 +225,28 @@ impl<D: Driver, R: Rail<D>> Front<D, R> {
             ≡ counts_flushed self.old.counts (length (batch_unless_empty self.old.calls)) }
         ensures journal { Told (R.journal self.old.rail) (R.journal self.new.rail)
             (batch_unless_empty self.old.calls) }
+        ensures memory { self.new.memory ≡ self.old.memory }
         ensures mark { self.new.refused ≡ self.old.refused }
         ensures size { R.size self.new.rail ≡ R.size self.old.rail }
         ensures sent { RisesLittle (R.sent self.old.rail) (R.sent self.new.rail) }
     {
         self.flush(rt);
         await_all(&mut self.rail)
+    }
+
+    /// Writes bytes into client memory from the place `at` on. Those that fall outside are dropped.
+    pub fn write_memory(&mut self, at: u64, bytes: &[u8])
+        requires place { at < 2 ^ 62 }
+        ensures { self.new ≡ record self.old { memory = written self.old.memory at bytes.now } }
+    {
+        self.memory.write(at, bytes);
+    }
+
+    /// Client memory.
+    pub fn memory(&self) -> &ClientMemory
+        ensures { result.now ≡ self.now.memory }
+    {
+        &self.memory
     }
 
     /// How many calls and batches there were.
@@ -224,13 +256,14 @@ impl<D: Driver, R: Rail<D>> Front<D, R> {
         self.counts
     }
 
-    /// The rail, whose driver isn't taken.
-    pub fn into_parts(self) -> R
+    /// The rail, whose driver isn't taken, and client memory.
+    pub fn into_parts(self) -> (R, ClientMemory)
         requires open_batch { self.calls ≡ [] }
-        ensures rail { result ≡ self.rail }
-        ensures home { R.home result }
+        ensures rail { result.0 ≡ self.rail }
+        ensures memory { result.1 ≡ self.memory }
+        ensures home { R.home result.0 }
     {
-        let Front { rail, .. } = self;
-        rail
+        let Front { rail, memory, .. } = self;
+        (rail, memory)
     }
 }

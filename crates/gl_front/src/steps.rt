@@ -1,17 +1,21 @@
 //! The steps of a front, over a rail and an open batch: putting a call behind the others, submitting,
 //! carrying one out at once. No front stands here.
 
-ghost use Rattle.std.specs.Prelude.{◌≡◌, ◌≢◌, ◌+◌, ◌-◌, ◌^◌, ◌<◌, ◌≤◌, ◌⊎◌, if◌then◌else◌, [], ◌∷◌, ◌++◌, length, IfOk, OnOk, OnErr};
+ghost use Rattle.std.specs.Prelude.{◌≡◌, ◌≢◌, ◌+◌, ◌-◌, ◌^◌, ◌<◌, ◌≤◌, ◌⊎◌, ◌↔◌, if◌then◌else◌, [], ◌∷◌, ◌++◌, length, IfOk, IsErr, OnOk, OnErr};
 ghost use Rattle.batch_pack.specs.declared.class.Class.TheVariants.{Defer};
-ghost use Rattle.batch_pack.specs.Batch.{IsBatchSize, empty_batch};
+ghost use Rattle.batch_pack.specs.Batch.{IsBatchSize, empty_batch, slots_left};
 ghost use Rattle.batch_pack.specs.Class.{class_of, is_flush};
-ghost use Rattle.batch_pack.specs.Cutting.{batch_unless_empty, joined, cut_before, ended_at, open_after};
-ghost use Rattle.gl_front.specs.Driver.{RunsFrom};
-ghost use Rattle.gl_front.specs.Rail.{Told, StandsForNoMore};
+ghost use Rattle.batch_pack.specs.Cutting.{batch_unless_empty, joined, cut_before, ended_at, issued, open_after};
+ghost use Rattle.batch_pack.specs.Spelling.{slots_of};
+ghost use Rattle.batch_rail.specs.Run.{RunsFrom};
+ghost use Rattle.batch_rail.specs.Rail.{Told, StandsForNoMore};
+ghost use Rattle.driver_trait.specs.Reply.{replied};
+ghost use Rattle.gl_memory.specs.ClientMemory.{memory_of};
 
-use crate::driver::{Driver, Reply};
-use crate::rail::Rail;
-use batch_pack::{Batch, sends_batch};
+use batch_pack::{Batch, Full, sends_batch};
+use batch_rail::Rail;
+use driver_trait::{Driver, Reply};
+use gl_memory::{ClientMemory, Pieces};
 use gl_words::Call;
 use std::alloc::AllocError as NoMemory;
 use std::thread::Threads;
@@ -43,6 +47,16 @@ pub fn submit_unless_empty<T: Threads + Sync, D: Driver, R: Rail<D>>(
     (rail.submit(rt, batch), 1)
 }
 
+/// Packs a call, with nothing captured for it. Full exactly where it doesn't fit.
+fn pack(batch: &mut Batch, call: &Call, memory: &ClientMemory) -> Result<(), Full>
+    ensures ok { OnOk result (batch.new
+        ≡ record batch.old { calls = batch.old.calls ++ (issued call.now).spelled ∷ [] }) }
+    ensures full { IsErr result ↔ (slots_left batch.old < slots_of (issued call.now).spelled) }
+    ensures err { OnErr result (batch.new ≡ batch.old) }
+{
+    batch.try_pack(call, &Pieces::new(), memory)
+}
+
 /// Puts a call behind those of the batch, which is submitted first where the call doesn't fit.
 /// Gives the batch with the call, and how many were submitted: 0 or 1.
 fn put_behind<T: Threads + Sync, D: Driver, R: Rail<D>>(
@@ -50,30 +64,33 @@ fn put_behind<T: Threads + Sync, D: Driver, R: Rail<D>>(
     rail: &mut R,
     batch: Batch,
     call: &Call,
+    memory: &ClientMemory,
 ) -> (Batch, u64)
     requires home { R.home rail.old }
     requires bounds { IsBatchSize batch.size }
     requires size { batch.size ≡ R.size rail.old }
     requires room { R.sent rail.old < 2 ^ 62 }
     ensures size { result.0.size ≡ batch.size }
-    ensures calls { result.0.calls ≡ joined batch.size batch.calls call.now ++ call.now ∷ [] }
-    ensures count { result.1 ≡ length (cut_before batch.size batch.calls call.now) }
+    ensures calls { result.0.calls ≡ joined batch.size batch.calls (issued call.now).spelled
+        ++ (issued call.now).spelled ∷ [] }
+    ensures count { result.1
+        ≡ length (cut_before batch.size batch.calls (issued call.now).spelled) }
     ensures few { result.1 ≤ 1 }
     ensures stands { (st2 : D) → RunsFrom (R.stands rail.new) D.steps result.0.calls st2
-        → RunsFrom (R.stands rail.old) D.steps (batch.calls ++ call.now ∷ []) st2 }
+        → RunsFrom (R.stands rail.old) D.steps (batch.calls ++ (issued call.now).spelled ∷ []) st2 }
     ensures failed { R.failed rail.new → R.failed rail.old ⊎ (batch.calls ≢ []) }
     ensures home { R.home rail.new }
     ensures rail_size { R.size rail.new ≡ R.size rail.old }
     ensures sent { R.sent rail.new ≡ R.sent rail.old + result.1 }
     ensures journal { Told (R.journal rail.old) (R.journal rail.new)
-        (cut_before batch.size batch.calls call.now) }
+        (cut_before batch.size batch.calls (issued call.now).spelled) }
 {
     let mut batch = batch;
-    match batch.try_pack(call) {
+    match pack(&mut batch, call, memory) {
         Ok(()) => (batch, 0),
         Err(_) => {
             let (mut batch, count) = submit_unless_empty(rt, rail, batch);
-            let _packed = batch.try_pack(call);
+            let _packed = pack(&mut batch, call, memory);
             (batch, count)
         }
     }
@@ -116,6 +133,7 @@ pub fn put_off<T: Threads + Sync, D: Driver, R: Rail<D>>(
     rail: &mut R,
     batch: Batch,
     call: &Call,
+    memory: &ClientMemory,
 ) -> (Batch, u64)
     requires class { class_of call.now ≡ Defer }
     requires home { R.home rail.old }
@@ -123,18 +141,18 @@ pub fn put_off<T: Threads + Sync, D: Driver, R: Rail<D>>(
     requires size { batch.size ≡ R.size rail.old }
     requires room { R.sent rail.old < 2 ^ 62 - 1 }
     ensures size { result.0.size ≡ batch.size }
-    ensures calls { result.0.calls ≡ open_after batch.size batch.calls call.now }
-    ensures count { result.1 ≡ length (ended_at batch.size batch.calls call.now) }
+    ensures calls { result.0.calls ≡ open_after batch.size batch.calls (issued call.now) }
+    ensures count { result.1 ≡ length (ended_at batch.size batch.calls (issued call.now)) }
     ensures few { result.1 ≤ 2 }
     ensures stands { (st2 : D) → RunsFrom (R.stands rail.new) D.steps result.0.calls st2
-        → RunsFrom (R.stands rail.old) D.steps (batch.calls ++ call.now ∷ []) st2 }
+        → RunsFrom (R.stands rail.old) D.steps (batch.calls ++ (issued call.now).spelled ∷ []) st2 }
     ensures home { R.home rail.new }
     ensures rail_size { R.size rail.new ≡ R.size rail.old }
     ensures sent { R.sent rail.new ≡ R.sent rail.old + result.1 }
     ensures journal { Told (R.journal rail.old) (R.journal rail.new)
-        (ended_at batch.size batch.calls call.now) }
+        (ended_at batch.size batch.calls (issued call.now)) }
 {
-    let (batch, before) = put_behind(rt, rail, batch, call);
+    let (batch, before) = put_behind(rt, rail, batch, call, memory);
     let (batch, behind) = submit_if_sent(rt, rail, batch, call);
     (batch, before + behind)
 }
@@ -144,10 +162,12 @@ pub fn carry_out<T: Threads + Sync, D: Driver, R: Rail<D>>(
     rt: &T,
     rail: &mut R,
     call: &Call,
+    memory: &ClientMemory,
 ) -> Result<Reply, NoMemory>
     requires home { R.home rail.old }
-    ensures ok { IfOk result (λ reply. (st2 : D) → R.stands rail.new st2
-        → (st : D) × R.stands rail.old st × D.steps st call.now st2 reply) }
+    ensures ok { IfOk result (λ reply. (st2 : D) → R.stands rail.new st2 → (st : D)
+        × R.stands rail.old st
+        × D.steps st call.now (memory_of memory.now) st2 (replied reply)) }
     ensures sound { OnOk result (¬ R.failed rail.new) }
     ensures err { OnErr result (StandsForNoMore (R.stands rail.old) (R.stands rail.new)) }
     ensures home { R.home rail.new }
@@ -156,7 +176,7 @@ pub fn carry_out<T: Threads + Sync, D: Driver, R: Rail<D>>(
     ensures journal { Told (R.journal rail.old) (R.journal rail.new) [] }
 {
     let mut driver = rail.take()?;
-    let reply = driver.call(rt, call);
+    let reply = driver.call(rt, call, memory);
     rail.put(driver);
     reply
 }

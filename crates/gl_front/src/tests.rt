@@ -1,58 +1,55 @@
-//! Each public call over a driver that writes down what it carries out. Expected numbers follow from
+//! Each public call over a driver that keeps the calls that it met. Expected numbers follow from
 //! the lengths of the spellings: ClearColorx has 5 slots, Clear 2, the others 1.
 
 ghost use Rattle.std.specs.Prelude.{◌≡◌, ◌≤◌, [], length, IfOk};
+ghost use Rattle.driver_trait.specs.Recorder.{RecorderSteps};
+ghost use Rattle.driver_trait.specs.Recording.{recorder_is_driver};
 ghost use Rattle.gl_front.specs.Front.{AllHaveRoom, HasRoom, no_counts};
 
 use super::*;
+use batch_rail::{InlineMaker, Rail, RailMaker};
+use driver_trait::{Driver, Machine, Recorder, Reply};
+use gl_memory::{ClientMemory, Memory};
 use gl_words::Call;
 use std::alloc::{AllocError, AllocError as NoMemory, Global};
 use std::marker::Model;
 use std::test::Fail;
 use std::thread::Threads;
 
-/// A driver that writes calls down and refuses memory where its room is full. It answers a GetError
-/// with the number of calls before it.
+/// A recorder that is refused memory where it met as many calls as it has room for.
 #[derive(Drop)]
-struct Recorder {
-    calls: Vec<Call>,
+struct Limited {
+    recorder: Recorder,
     room: usize,
 }
 
-impl Model for Recorder {
-    ghost use Rattle.std.specs.Prelude.{List};
-    ghost use Rattle.gl_words.specs.declared.call.Call.{Call};
+impl Model for Limited {
+    ghost use Rattle.driver_trait.specs.Recorder.{Recorded};
 
-    ghost Value = { List Call };
+    ghost Value = { Recorded };
 
-    ghost view = { λ r. r.calls.items };
+    ghost view = { λ l. l.recorder };
 }
 
-impl Machine for Recorder {
-    ghost use Rattle.std.specs.Prelude.{◌≡◌, false, [], ◌∷◌, ◌++◌};
-    ghost use Rattle.gl_words.specs.Call.{is_answering};
-    ghost use Rattle.gl_front.specs.declared.driver.Reply.TheVariants.{Nothing};
+impl Machine for Limited {
+    ghost tracked = { λ st. st.tracked };
 
-    ghost steps = { λ st call st2 reply.
-        (st2 ≡ st ++ call ∷ []) × (is_answering call ≡ false → reply ≡ Nothing) };
+    ghost steps = { RecorderSteps };
 
-    ghost laws = { record { replies = λ st call st2 reply _ asks step. step.1 asks } };
+    ghost laws = { recorder_is_driver };
 }
 
-impl Driver for Recorder {
-    #[tactic(auto, unfolding(gl_words::specs::Call::is_answering))]
-    fn call<T: Threads + Sync>(&mut self, _rt: &T, call: &Call) -> Result<Reply, NoMemory> {
-        let before = self.calls.len();
-        if before >= self.room {
+impl Driver for Limited {
+    fn call<T: Threads + Sync, M: Memory>(
+        &mut self,
+        rt: &T,
+        call: &Call,
+        memory: &M,
+    ) -> Result<Reply, NoMemory> {
+        if self.recorder.calls().len() >= self.room {
             return Err(AllocError);
         }
-        self.calls.push(*call)?;
-        Ok(match call {
-            Call::GetError => Reply::One((before % 1000) as i64),
-            Call::Clear { .. } | Call::ClearColorx { .. } | Call::Finish | Call::Flush => {
-                Reply::Nothing
-            }
-        })
+        self.recorder.call(rt, call, memory)
     }
 }
 
@@ -63,35 +60,36 @@ struct Played {
     counts: Counts,
     sent: u64,
     finished: bool,
-    written: Option<Vec<Call>>,
+    closed: Option<Limited>,
 }
 
 /// A front over a rail of batches of 16 slots, by whichever maker, over a recorder with so much room.
-fn front_of_sixteen<M: RailMaker<Recorder>>(
+fn front_of_sixteen<M: RailMaker<Limited>>(
     alloc: Global,
     maker: &mut M,
     room: usize,
-) -> Result<Front<Recorder, M::Made>, NoMemory>
+) -> Result<Front<Limited, M::Made>, NoMemory>
     ensures { IfOk result (λ front.
         (front.calls ≡ []) × (front.counts ≡ no_counts) × (M.Made.sent front.rail ≡ 0)) }
 {
-    let driver = Recorder {
-        calls: Vec::new(alloc),
+    let driver = Limited {
+        recorder: Recorder::new(alloc),
         room,
     };
+    let memory = ClientMemory::new(alloc, 4)?;
     let Ok(rail) = maker.launch(alloc, 0, driver, 16, 4) else {
         return Err(AllocError);
     };
-    let Ok(front) = Front::new(alloc, rail) else {
+    let Ok(front) = Front::new(alloc, rail, memory) else {
         return Err(AllocError);
     };
     Ok(front)
 }
 
 /// Issues calls to a new front. Gives how many were answered.
-fn issue_each<T: Threads + Sync, R: Rail<Recorder>>(
+fn issue_each<T: Threads + Sync, R: Rail<Limited>>(
     rt: &T,
-    front: &mut Front<Recorder, R>,
+    front: &mut Front<Limited, R>,
     calls: &[Call],
 ) -> usize
     requires few { length calls.now ≤ 100 }
@@ -110,7 +108,7 @@ fn issue_each<T: Threads + Sync, R: Rail<Recorder>>(
 }
 
 /// Issues calls, finishes, and takes the recorder back.
-fn play<T: Threads + Sync, M: RailMaker<Recorder>>(
+fn play<T: Threads + Sync, M: RailMaker<Limited>>(
     rt: &T,
     alloc: Global,
     maker: &mut M,
@@ -122,18 +120,15 @@ fn play<T: Threads + Sync, M: RailMaker<Recorder>>(
     let answered = issue_each(rt, &mut front, few);
     let finished = front.finish(rt).is_ok();
     let counts = front.counts();
-    let rail = front.into_parts();
+    let (rail, _memory) = front.into_parts();
     let sent = rail.sent();
-    let written = match maker.close(0, rail) {
-        Ok(driver) => Some(driver.calls),
-        Err(_) => None,
-    };
+    let closed = maker.close(0, rail).ok();
     Ok(Played {
         answered,
         counts,
         sent,
         finished,
-        written,
+        closed,
     })
 }
 
@@ -199,8 +194,8 @@ fn batches_of_16_slots_are_cut_where_the_next_call_does_not_fit(
         assert_eq!(rt; played.counts.batches, batches);
         assert_eq!(rt; played.sent, batches);
         assert!(rt; played.finished);
-        let written = played.written.expect(&rt, "the rail failed");
-        assert_eq!(rt; written.as_slice(), calls);
+        let closed = played.closed.expect(&rt, "the rail failed");
+        assert_eq!(rt; closed.recorder.calls(), calls);
     }
     Ok(())
 }
@@ -224,7 +219,7 @@ fn a_driver_that_is_refused_memory_at_its_nth_call_is_answered_no_further(
         let played = play(&rt, rt.alloc(), &mut maker, room, &calls)?;
         assert_eq!(rt; played.answered, answered);
         assert_eq!(rt; played.finished, finished);
-        assert_eq!(rt; played.written.is_some(), finished);
+        assert_eq!(rt; played.closed.is_some(), finished);
     }
     Ok(())
 }
@@ -234,21 +229,45 @@ fn calls_that_were_put_off_reach_the_driver_before_one_that_waits(
     rt: HostRuntime,
 ) -> Result<(), Fail> {
     let mut maker = InlineMaker::new();
-    let kind = RailMaker::<Recorder>::kind(&maker);
-    assert_eq!(rt; kind, RailKind::Inline);
     let mut front = front_of_sixteen(rt.alloc(), &mut maker, 100)?;
-    assert_eq!(rt; front.issue(&rt, &CLEAR), Ok(Reply::Nothing));
-    assert_eq!(rt; front.issue(&rt, &Call::Flush), Ok(Reply::Nothing));
     front.defer(&rt, &CLEAR);
+    front.defer(&rt, &Call::Flush);
+    front.defer(&rt, &COLOUR);
     front.flush(&rt);
-    assert_eq!(rt; front.issue(&rt, &COLOUR), Ok(Reply::Nothing));
-    assert_eq!(rt; front.issue(&rt, &Call::GetError), Ok(Reply::One(4)));
-    let counts = Counts {
-        deferred: 4,
-        synchronised: 1,
-        answered: 0,
-        batches: 3,
-    };
-    assert_eq!(rt; front.counts(), counts);
+    front.defer(&rt, &CLEAR);
+    let reply = front.issue(&rt, &Call::GetError);
+    let counts = front.counts();
+    let finished = front.finish(&rt);
+    let (rail, _memory) = front.into_parts();
+    let closed = maker.close(0, rail).ok();
+    assert!(rt; matches!(reply, Ok(Reply::Nothing)));
+    assert!(rt; finished.is_ok());
+    assert_eq!(rt;
+        counts,
+        Counts {
+            deferred: 4,
+            synchronised: 1,
+            answered: 0,
+            batches: 3,
+        }
+    );
+    let driver = closed.expect(&rt, "the rail failed");
+    assert_eq!(rt;
+        driver.recorder.calls(),
+        [CLEAR, Call::Flush, COLOUR, CLEAR, Call::GetError].as_slice()
+    );
+    Ok(())
+}
+
+// Client memory has four bytes: the last of those written falls outside.
+#[test]
+fn client_memory_keeps_what_was_written_into_it(rt: HostRuntime) -> Result<(), Fail> {
+    let mut maker = InlineMaker::new();
+    let mut front = front_of_sixteen(rt.alloc(), &mut maker, 100)?;
+    front.write_memory(2, &[7, 8, 9]);
+    assert_eq!(rt; front.memory().bytes(), [0, 0, 7, 8].as_slice());
+    assert!(rt; front.finish(&rt).is_ok());
+    let (_rail, memory) = front.into_parts();
+    assert_eq!(rt; memory.bytes(), [0, 0, 7, 8].as_slice());
     Ok(())
 }

@@ -1,5 +1,5 @@
 use Rattle.std.proofs.Common.{◌∙◌, arith}
-use Rattle.gl_front.proofs.Journals.{Told-along, Told-then}
+use Rattle.batch_rail.proofs.Journals.{Told-along, Told-then}
 use Rattle.gl_front.proofs.Cuttings.{ended_at-behind, open_after-behind, length-ended_at}
 use Rattle.gl_front.proofs.steps.put_off.Goals as goal
 

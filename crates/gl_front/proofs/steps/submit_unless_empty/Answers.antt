@@ -1,9 +1,9 @@
 use Rattle.std.proofs.Common.{◌≤◌, List, length, ap, sym, ◌∙◌, arith}
-use Rattle.gl_words.specs.declared.call.Call.{Call}
+use Rattle.batch_pack.specs.Spelling.{Spelled}
 use Rattle.batch_pack.specs.Batch.{slots_used}
 use Rattle.batch_pack.specs.Cutting.{batch_unless_empty}
-use Rattle.gl_front.proofs.Runs.{RunsFrom-from_nil}
-use Rattle.gl_front.proofs.Journals.{Told-none, Told-along}
+use Rattle.batch_rail.proofs.Runs.{RunsFrom-from_nil}
+use Rattle.batch_rail.proofs.Journals.{Told-none, Told-along}
 use Rattle.gl_front.proofs.Cuttings.{nil_from_slots, some_from_slots, empty_from_nil}
 use Rattle.gl_front.proofs.steps.submit_unless_empty.Goals as goal
 
@@ -13,7 +13,7 @@ returns-then-used-eq0-clause-empty g c =
 
 pub returns-then-used-eq0-clause-count : goal.returns-then-used-eq0-clause-count
 returns-then-used-eq0-clause-count g c =
-    ap (λ (calls : List Call). length (batch_unless_empty calls)) (sym (nil_from_slots c.args.batch.calls (sym c.used.ensures.used ∙ c.if-used-eq0.true)))
+    ap (λ (calls : List Spelled). length (batch_unless_empty calls)) (sym (nil_from_slots c.args.batch.calls (sym c.used.ensures.used ∙ c.if-used-eq0.true)))
 
 pub returns-then-used-eq0-clause-stands : goal.returns-then-used-eq0-clause-stands
 returns-then-used-eq0-clause-stands g c =

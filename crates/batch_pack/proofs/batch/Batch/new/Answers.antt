@@ -1,5 +1,5 @@
 use Rattle.std.proofs.Common.{ℕ, List, ◌≤◌, vec_capacity, ◌∙◌, sym, ap, subst}
-use Rattle.gl_words.specs.declared.call.Call.{Call}
+use Rattle.batch_pack.specs.Spelling.{Spelled}
 use Rattle.batch_pack.specs.Batch.{Packing}
 use Rattle.batch_pack.specs.Decoding.{calls_in}
 use Rattle.batch_pack.specs.Holding.{IsHolding}
@@ -17,5 +17,5 @@ pub returns : goal.returns
 returns c = record {
   ok =
       ap (λ (s : List ℕ). let p : Packing = record { size = c.args.slots; calls = calls_in s } in p) c.in_ok-with_capacity.ensures.items
-      ∙ ap (λ (cs : List Call). let p : Packing = record { size = c.args.slots; calls = cs } in p) calls_in-nil;
+      ∙ ap (λ (cs : List Spelled). let p : Packing = record { size = c.args.slots; calls = cs } in p) calls_in-nil;
 }

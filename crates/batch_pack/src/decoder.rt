@@ -1,0 +1,173 @@
+//! The call and the segments whose spelling slots begin with. Which slots come next is told by the reader.
+
+ghost use Rattle.std.specs.Prelude.{◌≡◌, ◌++◌, ◌+◌, ◌↔◌, ◌<◌, ◌≤◌, ◌^◌, ℕ, List, ◌∷◌, [], length, take, drop, map, IfSome, IsSome, IsTrue, Some};
+ghost use Rattle.std.specs.Int.{cast_signed, w64};
+ghost use Rattle.std.specs.List.{flat_map, AllByRecursion};
+ghost use Rattle.gl_words.specs.Call.{id_of, arguments, IsInRange};
+ghost use Rattle.gl_words.specs.declared.call.Call.{Call};
+ghost use Rattle.gl_memory.specs.Segment.{Segment};
+ghost use Rattle.gl_memory.specs.Slots.{LieIn, lent};
+ghost use Rattle.batch_pack.specs.Spelling.{Spelled, slot_of, slots_for, slots_of_bytes, segment_slots, segment_spelling, spelling_of, IsSegment, HasSpelling};
+ghost use Rattle.batch_pack.specs.Decoding.{segment_at, slots_said};
+ghost use Rattle.batch_pack.specs.Packed.{spelled_by};
+
+use crate::packed::Packed;
+use crate::spelling::words_of;
+use gl_memory::Segments;
+use gl_words::{Call, arg_count, arg_count_of, call_from};
+
+/// Where segments may end, in bytes of client memory: no place of theirs reaches it.
+const END: u64 = 0x4000_0000_0000_0000;
+
+/// The call and the segments whose spelling slots begin with. None exactly where they begin with no spelling.
+pub(crate) fn first_packed<'a>(slots: &'a [u64]) -> Option<Packed<'a>>
+    ensures found { IfSome result (λ packed. HasSpelling (spelled_by packed)
+        × (more : List ℕ) × (slots.now ≡ spelling_of (spelled_by packed) ++ more)) }
+    ensures only { (spelled : Spelled) (more : List ℕ) → HasSpelling spelled
+        → slots.now ≡ spelling_of spelled ++ more → IsSome result }
+{
+    match slots {
+        [] => None,
+        [header, rest @ ..] => packed_behind(*header, rest),
+    }
+}
+
+/// How many slots the spelling has that slots begin with, as its header says.
+pub(crate) fn spelled_slots(slots: &[u64]) -> u64
+    requires some { 1 ≤ length slots.now }
+    ensures { (header : ℕ) (rest : List ℕ) → slots.now ≡ header ∷ rest
+        → result ≡ slots_said header }
+{
+    slots[0] / 0x1_0000 % 0x1_0000_0000
+}
+
+/// The call and the segments whose spelling is a header and the first of the slots behind it.
+fn packed_behind<'a>(header: u64, rest: &'a [u64]) -> Option<Packed<'a>>
+    ensures found { IfSome result (λ packed. HasSpelling (spelled_by packed)
+        × (more : List ℕ) × (header ∷ rest.now ≡ spelling_of (spelled_by packed) ++ more)) }
+    ensures only { (spelled : Spelled) (more : List ℕ) → HasSpelling spelled
+        → header ∷ rest.now ≡ spelling_of spelled ++ more → IsSome result }
+{
+    let count = header / 0x1_0000_0000_0000;
+    if count > 8 {
+        return None;
+    }
+    let call = call_in((header % 0x1_0000) as u16, rest)?;
+    let (memory, left) = match segments_in(rest.split_at(arg_count(&call)).1, count) {
+        Some(read) => read,
+        None => return None,
+    };
+    if 1 + (rest.len() - left.len()) as u64 != header / 0x1_0000 % 0x1_0000_0000 {
+        return None;
+    }
+    Some(Packed { call, memory })
+}
+
+/// The call with this number whose arguments slots begin with. None exactly where they begin with those of none.
+fn call_in(id: u16, slots: &[u64]) -> Option<Call>
+    ensures found { IfSome result (λ call. IsInRange call × (id_of call ≡ id)
+        × (more : List ℕ) × (slots.now ≡ map slot_of (arguments call) ++ more)) }
+    ensures only { (call : Call) (more : List ℕ) → IsInRange call → id_of call ≡ id
+        → slots.now ≡ map slot_of (arguments call) ++ more → result ≡ Some call }
+{
+    let count = arg_count_of(id)?;
+    if count > slots.len() {
+        return None;
+    }
+    let args = arguments_in(slots, count);
+    call_from(id, &args[..count])
+}
+
+/// The first slots as integers. An argument list has at most 9.
+fn arguments_in(slots: &[u64], n: usize) -> [i64; 9]
+    requires few { n ≤ 9 }
+    requires there { n ≤ length slots.now }
+    ensures read { take n result ≡ map (cast_signed w64) (take n slots.now) }
+    ensures same_length { length result ≡ 9 }
+{
+    let mut args = [0i64; 9];
+    for at in 0..n {
+        args[at] = slots[at].cast_signed();
+    }
+    args
+}
+
+/// So many segments that slots begin with, and the slots behind them. None exactly where they begin with fewer.
+fn segments_in<'a>(slots: &'a [u64], count: u64) -> Option<(Segments<'a>, &'a [u64])>
+    requires few { count ≤ 8 }
+    ensures found { IfSome result (λ read. AllByRecursion IsSegment read.0
+        × (length read.0 ≡ count)
+        × (slots.now ≡ flat_map segment_spelling read.0 ++ read.1.now)) }
+    ensures only { (segments : List Segment) (more : List ℕ) → AllByRecursion IsSegment segments
+        → length segments ≡ count → slots.now ≡ flat_map segment_spelling segments ++ more
+        → IsSome result }
+{
+    let mut segments = Segments::new();
+    let mut rest = slots;
+    for _at in 0..count {
+        match segment_length(rest) {
+            Some(taken) => {
+                add_segment(&mut segments, rest);
+                rest = rest.split_at(taken).1;
+            }
+            None => return None,
+        }
+    }
+    Some((segments, rest))
+}
+
+/// Adds last the segment that slots begin with, whose bytes are lent from them.
+fn add_segment<'a>(segments: &mut Segments<'a>, slots: &'a [u64])
+    requires room { length segments.old < 8 }
+    requires segment { IsSegment (segment_at slots.now) }
+    requires begins { (more : List ℕ)
+        × (slots.now ≡ segment_spelling (segment_at slots.now) ++ more) }
+    ensures { segments.new ≡ segments.old ++ segment_at slots.now ∷ [] }
+{
+    let start = slots[0];
+    let len = slots[1];
+    segments.push(start, len, slots.split_at(2).1, 0);
+}
+
+/// How many slots the segment takes that slots begin with. None exactly where they begin with no segment.
+fn segment_length(slots: &[u64]) -> Option<usize>
+    ensures found { IfSome result (λ taken. IsSegment (segment_at slots.now)
+        × (taken ≡ segment_slots (segment_at slots.now))
+        × (slots.now ≡ segment_spelling (segment_at slots.now) ++ drop taken slots.now)) }
+    ensures only { (segment : Segment) (more : List ℕ) → IsSegment segment
+        → slots.now ≡ segment_spelling segment ++ more → IsSome result }
+{
+    if slots.len() < 2 {
+        return None;
+    }
+    let len = slots[1];
+    if !is_range(slots[0], len) {
+        return None;
+    }
+    if !is_filled(slots.split_at(2).1, len) {
+        return None;
+    }
+    Some(2 + words_of(len) as usize)
+}
+
+/// Whether so many bytes from a place on may be a segment.
+fn is_range(start: u64, len: u64) -> bool
+    ensures { IsTrue result ↔ ((1 ≤ len) × (start + len ≤ 2 ^ 62)) }
+{
+    len >= 1 && len <= END && start <= END - len
+}
+
+/// Whether slots begin with so many bytes, and with zeros behind them in their last slot.
+fn is_filled(slots: &[u64], len: u64) -> bool
+    requires some { 1 ≤ len }
+    requires few { len ≤ 2 ^ 62 }
+    ensures { IsTrue result ↔ (LieIn slots.now 0 len
+        × (take (slots_for len) slots.now ≡ slots_of_bytes (lent slots.now 0 len))) }
+{
+    let count = words_of(len);
+    if count > slots.len() as u64 {
+        return false;
+    }
+    let used = len % 8;
+    used == 0 || slots[(count - 1) as usize] >> (8 * used) == 0
+}

@@ -1,0 +1,138 @@
+//! A rail that carries out each batch in `submit`, and its maker. Neither starts a thread.
+
+ghost use Rattle.std.specs.Prelude.{◌≡◌, ◌≢◌, ℕ, ◌+◌, ◌^◌, ◌<◌, ◌⊎◌, List, [], ◌∷◌, Option, Some, None, IsSome, IsNone, true, false, IfOk, IfErr, OnErr};
+ghost use Rattle.std.specs.Thread.{IsSync};
+ghost use Rattle.batch_pack.specs.Batch.{IsBatchSize, empty_batch};
+ghost use Rattle.batch_rail.specs.declared.maker.RailKind.TheVariants.{Inline};
+ghost use Rattle.batch_rail.specs.Run.{RunsFrom};
+ghost use Rattle.batch_rail.specs.Rail.{Told, StandsForNoMore};
+ghost use Rattle.batch_rail.specs.Maker.{IsRingLength, KeepsOthers, IsLaunched};
+
+use crate::maker::{RailKind, RailMaker};
+use crate::rail::{Rail, RailState};
+use crate::run::run_batch;
+use batch_pack::Batch;
+use driver_trait::{Driver, Machine};
+use std::alloc::{AllocError, AllocError as NoMemory, Global};
+use std::thread::Threads;
+
+/// A rail without threads; own.
+#[derive(Drop)]
+pub struct InlineRail<D> {
+    driver: Option<D>,
+    failed: bool,
+    slots: u32,
+    sent: u64,
+}
+
+impl<D: Machine> RailState<D> for InlineRail<D> {
+    ghost stands = { λ rail st. (rail.failed ≡ false) × (rail.driver ≡ Some st) };
+
+    ghost failed = { λ rail. rail.failed ≡ true };
+
+    ghost home = { λ rail. IsSome rail.driver };
+
+    ghost taken = { λ rail. IsNone rail.driver };
+
+    ghost size = { λ rail. rail.slots };
+
+    ghost sent = { λ rail. rail.sent };
+
+    ghost journal = { λ rail. None };
+}
+
+impl<D: Driver> Rail<D> for InlineRail<D> {
+    fn submit<T: Threads + Sync>(&mut self, rt: &T, full: Batch) -> Batch {
+        let mut batch = full;
+        let failed = self.failed;
+        self.failed = fails(rt, failed, &mut self.driver, &batch);
+        self.sent += 1;
+        batch.clear();
+        batch
+    }
+
+    fn take(&mut self) -> Result<D, NoMemory> {
+        if self.failed {
+            return Err(AllocError);
+        }
+        self.driver.take().ok_or(AllocError)
+    }
+
+    fn put(&mut self, driver: D) {
+        self.failed = false;
+        self.driver = Some(driver);
+    }
+
+    fn slots(&self) -> u32 {
+        self.slots
+    }
+
+    fn sent(&self) -> u64 {
+        self.sent
+    }
+}
+
+/// Carries a batch out, unless an earlier one failed. Gives whether one has failed by now.
+fn fails<T: Threads + Sync, D: Driver>(
+    rt: &T,
+    failed: bool,
+    driver: &mut Option<D>,
+    batch: &Batch,
+) -> bool
+    ensures runs { result ≡ false → (st2 : D) → driver.new ≡ Some st2
+        → RunsFrom (λ st. (failed ≡ false) × (driver.old ≡ Some st)) D.steps batch.now.calls st2 }
+    ensures cause { result ≡ true → (failed ≡ true) ⊎ (batch.now.calls ≢ []) }
+    ensures home { IsSome driver.old → IsSome driver.new }
+{
+    if failed {
+        return true;
+    }
+    match driver {
+        Some(driver) => run_batch(rt, driver, batch).is_err(),
+        None => false,
+    }
+}
+
+/// Makes rails without threads, and tells no journal; own.
+#[derive(Drop)]
+pub struct InlineMaker;
+
+impl InlineMaker {
+    /// A maker, which takes no memory.
+    pub fn new() -> InlineMaker {
+        InlineMaker
+    }
+}
+
+impl<D: Driver> RailMaker<D> for InlineMaker {
+    type Made = InlineRail<D>;
+
+    ghost kind_of = { λ maker. Inline };
+
+    ghost journal = { λ maker context. None };
+
+    fn kind(&self) -> RailKind {
+        RailKind::Inline
+    }
+
+    fn launch(
+        &mut self,
+        alloc: Global,
+        context: u32,
+        driver: D,
+        slots: u32,
+        ring: u32,
+    ) -> Result<InlineRail<D>, (D, NoMemory)> {
+        Ok(InlineRail {
+            driver: Some(driver),
+            failed: false,
+            slots,
+            sent: 0,
+        })
+    }
+
+    fn close(&mut self, context: u32, rail: InlineRail<D>) -> Result<D, NoMemory> {
+        let mut rail = rail;
+        rail.take()
+    }
+}

@@ -1,0 +1,11 @@
+pub mod Tracked
+pub mod Fault
+pub mod Step
+pub mod Room
+pub mod Reply
+pub mod Driver
+pub use Rattle.gl_words.specs.Call
+pub use Rattle.gl_memory.specs.Segment
+pub use Rattle.gl_memory.specs.Piece
+pub mod Recorder
+pub mod Recording

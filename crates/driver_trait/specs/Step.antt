@@ -1,0 +1,42 @@
+-- What a call does to tracked state, what it reads of memory, and which number of tracked state it asks for.
+use Rattle.std.specs.Prelude.{ℤ, List, [], Option, Some, None}
+use Rattle.gl_words.specs.declared.call.Call.{Call}
+use Rattle.gl_words.specs.declared.call.Call.TheVariants.{Clear, ClearColorx, Finish, Flush, GetError}
+use Rattle.gl_words.specs.declared.error.GlError.{GlError}
+use Rattle.gl_memory.specs.Segment.{Segment}
+use Rattle.gl_memory.specs.declared.piece.Piece.{Piece}
+use Rattle.driver_trait.specs.declared.tracked.Tracked.{Tracked}
+use Rattle.driver_trait.specs.Fault.{fault_of}
+
+-- the tracked state that a call without an error leaves
+unfoldable pub set_by : Tracked → Call → List Segment → Tracked
+set_by tracked (Clear mask) memory = tracked
+set_by tracked (ClearColorx red green blue alpha) memory = tracked
+set_by tracked Finish memory = tracked
+set_by tracked Flush memory = tracked
+set_by tracked GetError memory = tracked
+
+-- tracked state where there was an error, and where there was none
+abbrev pub unless_fault : Option GlError → Tracked → Tracked → Tracked
+unless_fault None before after = after
+unless_fault (Some error) before after = before
+
+-- the tracked state after a call: a call with an error changes nothing; section 2.5
+unfoldable pub tracked_after : Tracked → Call → List Segment → Tracked
+tracked_after tracked call memory = unless_fault (fault_of tracked call) tracked (set_by tracked call memory)
+
+-- the ranges of places whose bytes a call reads; section 2.8
+unfoldable pub reads_of : Tracked → Call → List Segment → List Piece
+reads_of tracked (Clear mask) memory = []
+reads_of tracked (ClearColorx red green blue alpha) memory = []
+reads_of tracked Finish memory = []
+reads_of tracked Flush memory = []
+reads_of tracked GetError memory = []
+
+-- the number of tracked state for which a call asks, if it asks for one; section 6.1
+unfoldable pub number_asked : Tracked → Call → Option ℤ
+number_asked tracked (Clear mask) = None
+number_asked tracked (ClearColorx red green blue alpha) = None
+number_asked tracked Finish = None
+number_asked tracked Flush = None
+number_asked tracked GetError = None

@@ -1,0 +1,19 @@
+//! What drivers are: the state of a context that the layer keeps as well, what a call answers, and the laws of drivers.
+#![tactic(auto)]
+
+mod driver;
+pub mod laws;
+mod numbers;
+mod octets;
+mod recorder;
+mod reply;
+#[cfg(test)]
+mod tests;
+mod tracked;
+
+pub use driver::{Driver, Machine};
+pub use numbers::Numbers;
+pub use octets::Octets;
+pub use recorder::Recorder;
+pub use reply::Reply;
+pub use tracked::{ArrayState, Tracked};

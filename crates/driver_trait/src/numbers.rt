@@ -1,0 +1,60 @@
+//! The numbers of a reply.
+
+ghost use Rattle.std.specs.Prelude.{◌≡◌, ◌<◌, ℤ, [], ◌∷◌, ◌++◌, length, slice_index_or, IfOk};
+ghost use Rattle.driver_trait.specs.Room.{Roomy};
+
+use std::alloc::{AllocError as NoMemory, Global};
+use std::marker::Model;
+
+/// A list of numbers from -2^63 to 2^63 - 1, in a room for so many; own.
+#[derive(Drop)]
+pub struct Numbers {
+    items: Vec<i64>,
+    room: u64,
+}
+
+impl Model for Numbers {
+    ghost use Rattle.std.specs.Prelude.{ℤ, ◌≤◌, length, vec_capacity};
+    ghost use Rattle.driver_trait.specs.Room.{Roomy, HasRoom};
+
+    ghost Value = { Roomy ℤ };
+
+    ghost view = { λ n. record { items = n.items.items; room = n.room } };
+
+    ghost invariant = { λ n. HasRoom (length n.items.items) n.room (vec_capacity n.items) };
+}
+
+impl Numbers {
+    /// No numbers, with room for so many.
+    pub fn new(alloc: Global, room: u64) -> Result<Numbers, NoMemory>
+        ensures { IfOk result (λ numbers. numbers ≡ record { items = []; room = room }) }
+    {
+        Ok(Numbers {
+            items: Vec::with_capacity(alloc, room as usize)?,
+            room,
+        })
+    }
+
+    /// Adds a number at the end. It takes no memory.
+    pub fn push(&mut self, value: i64)
+        requires room { length self.old.items < self.old.room }
+        ensures { self.new ≡ record self.old { items = self.old.items ++ value ∷ [] } }
+    {
+        self.items.push_reserved(value);
+    }
+
+    /// How many there are.
+    pub fn len(&self) -> usize
+        ensures { result ≡ length self.now.items }
+    {
+        self.items.len()
+    }
+
+    /// The number at a place, from 0.
+    pub fn at(&self, at: usize) -> i64
+        requires place { at < length self.now.items }
+        ensures { result ≡ slice_index_or self.now.items at result }
+    {
+        self.items[at]
+    }
+}

@@ -1,0 +1,72 @@
+//! A driver for tests: it keeps the calls that it met.
+
+ghost use Rattle.std.specs.Prelude.{◌≡◌, [], IfOk, OnErr};
+ghost use Rattle.std.specs.Thread.{IsSync};
+ghost use Rattle.driver_trait.specs.Recorder.{RecorderSteps, recorded_after, recorder_reply};
+ghost use Rattle.driver_trait.specs.Reply.{replied};
+ghost use Rattle.driver_trait.specs.Tracked.{first_tracked};
+ghost use Rattle.driver_trait.specs.Recording.{recorder_is_driver};
+
+use crate::driver::{Driver, Machine};
+use crate::reply::Reply;
+use crate::tracked::Tracked;
+use gl_memory::Memory;
+use gl_words::Call;
+use std::alloc::{AllocError as NoMemory, Global};
+use std::marker::Model;
+use std::thread::Threads;
+
+/// Tracked state, and the calls that were met, those that ask for tracked state aside; own.
+#[derive(Drop)]
+pub struct Recorder {
+    tracked: Tracked,
+    calls: Vec<Call>,
+}
+
+impl Model for Recorder {
+    ghost use Rattle.driver_trait.specs.Recorder.{Recorded};
+
+    ghost Value = { Recorded };
+
+    ghost view = { λ r. record { tracked = r.tracked; calls = r.calls.items } };
+}
+
+impl Recorder {
+    /// A recorder that met no call. It takes no memory.
+    pub fn new(alloc: Global) -> Recorder
+        ensures { result ≡ record { tracked = first_tracked; calls = [] } }
+    {
+        Recorder {
+            tracked: Tracked::first(),
+            calls: Vec::new(alloc),
+        }
+    }
+
+    /// The calls that it met, in order.
+    pub fn calls(&self) -> &[Call]
+        ensures { result.now ≡ self.now.calls }
+    {
+        self.calls.as_slice()
+    }
+}
+
+impl Machine for Recorder {
+    ghost tracked = { λ st. st.tracked };
+
+    ghost steps = { RecorderSteps };
+
+    ghost laws = { recorder_is_driver };
+}
+
+impl Driver for Recorder {
+    fn call<T: Threads + Sync, M: Memory>(
+        &mut self,
+        _rt: &T,
+        call: &Call,
+        memory: &M,
+    ) -> Result<Reply, NoMemory> {
+        self.calls.push(*call)?;
+        self.tracked.note(call, memory);
+        Ok(Reply::Nothing)
+    }
+}

@@ -1,0 +1,13 @@
+//! What a call answers.
+
+use crate::numbers::Numbers;
+use crate::octets::Octets;
+
+/// What a call answers: nothing, one number from -2^63 to 2^63 - 1, a list of them, or bytes; own.
+#[derive(Drop)]
+pub enum Reply {
+    Nothing,
+    One(i64),
+    Numbers(Numbers),
+    Bytes(Octets),
+}

@@ -1,0 +1,85 @@
+//! Each public call once, and each law at the test driver through its bound.
+
+use super::*;
+use crate::laws::{answers_law, follows_law, reads_alone_law, replies_law};
+use gl_memory::ClientMemory;
+use gl_words::{Call, GlError};
+use std::alloc::{AllocError as NoMemory, Global};
+use std::test::Fail;
+use std::thread::Threads;
+
+/// Carries a call out on client memory, by whichever driver.
+fn carried_out<T: Threads + Sync, D: Driver>(
+    rt: &T,
+    alloc: Global,
+    driver: &mut D,
+    call: &Call,
+) -> Result<Reply, NoMemory> {
+    let memory = ClientMemory::new(alloc, 16)?;
+    reads_alone_law(driver);
+    follows_law(driver);
+    answers_law(driver);
+    replies_law(driver);
+    driver.call(rt, call, &memory)
+}
+
+#[test]
+fn a_recorder_keeps_the_calls_that_it_met(rt: HostRuntime) -> Result<(), Fail> {
+    let mut recorder = Recorder::new(rt.alloc());
+    let calls = [Call::Clear { mask: 1 }, Call::GetError, Call::Flush];
+    for call in &calls {
+        let reply = carried_out(&rt, rt.alloc(), &mut recorder, call)?;
+        assert!(rt; matches!(reply, Reply::Nothing));
+    }
+    assert_eq!(rt; recorder.calls(), calls.as_slice());
+    Ok(())
+}
+
+// The bits of depth, stencil and colour are 0x100, 0x400 and 0x4000.
+#[test]
+fn only_a_clear_with_other_bits_is_an_error(rt: HostRuntime) -> Result<(), Fail> {
+    let tracked = Tracked::first();
+    for mask in [0, 0x100, 0x400, 0x4000, 0x4500] {
+        assert_eq!(rt; tracked.fault(&Call::Clear { mask }), None);
+    }
+    for mask in [1, 0x200, 0x4501, 0x8000, 0x8000_0000] {
+        assert_eq!(rt;
+            tracked.fault(&Call::Clear { mask }),
+            Some(GlError::InvalidValue)
+        );
+    }
+    for call in [Call::Finish, Call::Flush, Call::GetError] {
+        assert_eq!(rt; tracked.fault(&call), None);
+    }
+    Ok(())
+}
+
+// The numbers of TEXTURE0, MODELVIEW and FIXED are 0x84C0, 0x1700 and 0x140C.
+#[test]
+fn tracked_state_begins_as_a_context_does(rt: HostRuntime) -> Result<(), Fail> {
+    let memory = ClientMemory::new(rt.alloc(), 0)?;
+    let mut tracked = Tracked::first();
+    tracked.note(&Call::Clear { mask: 1 }, &memory);
+    assert_eq!(rt; tracked, Tracked::first());
+    assert_eq!(rt; tracked.active, 0x84C0);
+    assert_eq!(rt; tracked.matrix_mode, 0x1700);
+    assert_eq!(rt; tracked.depths, [1, 1, 1, 1]);
+    assert_eq!(rt; tracked.texture[1].kind, 0x140C);
+    assert_eq!(rt; tracked.unpack_alignment, 4);
+    Ok(())
+}
+
+#[test]
+fn lists_of_replies_hold_what_was_pushed(rt: HostRuntime) -> Result<(), Fail> {
+    let mut numbers = Numbers::new(rt.alloc(), 2)?;
+    numbers.push(i64::MIN);
+    numbers.push(7);
+    assert_eq!(rt; numbers.len(), 2);
+    assert_eq!(rt; numbers.at(0), i64::MIN);
+    assert_eq!(rt; numbers.at(1), 7);
+    let mut octets = Octets::new(rt.alloc(), 1)?;
+    octets.push(255);
+    assert_eq!(rt; octets.len(), 1);
+    assert_eq!(rt; octets.at(0), 255);
+    Ok(())
+}
