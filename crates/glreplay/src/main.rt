@@ -1,7 +1,7 @@
 //! glreplay: replays a script of OpenGL ES calls. It makes the real objects, and all else is in the top call.
 #![tactic(auto)]
 
-use gl_front::InlineMaker;
+use batch_rail::InlineMaker;
 use gl_outside::{FolderShelf, StdinSource, StdoutSink};
 use replay_core::{Status, exit_code, replay_alone};
 use std::io::ErrorKind;

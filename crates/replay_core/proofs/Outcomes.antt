@@ -120,4 +120,5 @@ one_context contexts h = record {
   context = h.0;
   only = h.1;
   sides = record { wide = h.2.some_columns; no_wider = h.2.few_columns; high = h.2.some_rows; no_higher = h.2.few_rows };
+  memory = h.2.little_memory;
 }

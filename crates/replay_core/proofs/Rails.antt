@@ -3,8 +3,8 @@ use Rattle.std.proofs.Common.{◌≡◌, ℕ, List, [], ◌∷◌, Bool, true, f
 use Rattle.std.specs.Prelude.{◌&&◌, if◌then◌else◌, ◌==◌, codes, is_none, unwrap_or, option_and_then, IfSome}
 use Rattle.std.specs.Option.{option_map}
 use Rattle.std.specs.Str.{bytes_eq}
-use Rattle.gl_front.specs.declared.maker.RailKind.{RailKind}
-use Rattle.gl_front.specs.declared.maker.RailKind.TheVariants.{Inline}
+use Rattle.batch_rail.specs.declared.maker.RailKind.{RailKind}
+use Rattle.batch_rail.specs.declared.maker.RailKind.TheVariants.{Inline}
 use Rattle.replay_core.specs.declared.words.Command.{Command}
 use Rattle.replay_core.specs.declared.words.Command.TheVariants.{Run, Direct}
 use Rattle.replay_core.specs.declared.words.Given.{Given}

@@ -2,92 +2,98 @@
 use Rattle.std.proofs.Common.{◌≡◌, ℕ, ◌+◌, ◌<◌, List, [], ◌∷◌, ◌++◌, length, get_or, drop, refl, sym, ap, subst, ◌∙◌, append_assoc}
 use Rattle.std.proofs.lemmas.List.{append-nil, drop_more}
 use Rattle.gl_words.specs.declared.call.Call.{Call}
-use Rattle.gl_front.specs.declared.driver.Reply.{Reply}
-use Rattle.gl_front.specs.Driver.{RunsFrom}
-use Rattle.gl_front.specs.Rail.{StandsForNoMore}
+use Rattle.gl_memory.specs.ClientMemory.{memory_of}
+use Rattle.batch_pack.specs.Spelling.{Spelled}
+use Rattle.driver_trait.specs.Driver.{Steps}
+use Rattle.driver_trait.specs.Reply.{Replied}
+use Rattle.batch_rail.specs.Run.{RunsFrom}
+use Rattle.batch_rail.specs.Rail.{StandsForNoMore}
 use Rattle.gl_front.specs.Front.{Fronting, StandsFor, new_front}
 use Rattle.script_reader.specs.declared.script.Line.{Line}
 use Rattle.replay_core.specs.declared.lines.Answer.{Answer}
 use Rattle.replay_core.specs.Script.{Scripted, calls_of, call_on}
 use Rattle.replay_core.specs.Own.{Own, first_own, own_after, reply_of}
 use Rattle.replay_core.specs.Direct.{told_of, own_after_lines, answers_of, final_own, script_answers}
+use Rattle.replay_core.specs.Soft.{OwnSteps}
 use Rattle.replay_core.specs.Images.{ppm_of, frame_of}
 use Rattle.replay_core.specs.Report.{report_text, report_of}
-use Rattle.batch_pack.specs.Cutting.{Tally, tally_of}
+use Rattle.batch_pack.specs.Cutting.{Tally, issued, tally_of}
 use Rattle.replay_core.specs.Lines.{Lines, RunsLines}
 
 -- lines, and then one more
-pub Lines-push : {S : Type 0} (steps : S → Call → S → Reply → Type 0) (st mid st2 : S) (lines : List Line) (line : Line) (done : List Answer) (reply : Reply) → Lines steps st lines mid done → steps mid (call_on line) st2 reply → Lines steps st (lines ++ line ∷ []) st2 (done ++ told_of line reply)
-Lines-push {S} steps st mid st2 [] line done reply before step =
-    let P : S → Type 0 = λ s. steps s (call_on line) st2 reply in
+pub Lines-push : {S : Type 0} (steps : Steps S) (memory : List ℕ) (st mid st2 : S) (lines : List Line) (line : Line) (done : List Answer) (reply : Replied) → Lines steps memory st lines mid done → steps mid (call_on line) (memory_of memory) st2 reply → Lines steps memory st (lines ++ line ∷ []) st2 (done ++ told_of line reply)
+Lines-push {S} steps memory st mid st2 [] line done reply before step =
+    let P : S → Type 0 = λ s. steps s (call_on line) (memory_of memory) st2 reply in
     (st2, reply, [], subst P before.0 step, ap (λ ds. ds ++ told_of line reply) before.1 ∙ sym (append-nil (told_of line reply)), (refl, refl))
-Lines-push steps st mid st2 (first ∷ lines) line done reply (next, first_reply, others, first_step, same, rest) step = (
+Lines-push steps memory st mid st2 (first ∷ lines) line done reply (next, first_reply, others, first_step, same, rest) step = (
   next,
   first_reply,
   others ++ told_of line reply,
   first_step,
   ap (λ ds. ds ++ told_of line reply) same ∙ append_assoc (told_of first first_reply) others (told_of line reply),
-  Lines-push steps next mid st2 lines line others reply rest step,
+  Lines-push steps memory next mid st2 lines line others reply rest step,
 )
 
--- a context goes on to one state, with one reply
-abbrev pub context_steps : Own → Call → Own → Reply → Type 0
-context_steps st call st2 reply = (st2 ≡ own_after st call) × (reply ≡ reply_of st call)
-
 -- the lines lead a context to the state and the answers of the direct machine
-pub lines_are_direct : (st st2 : Own) (lines : List Line) (done : List Answer) → Lines context_steps st lines st2 done → (st2 ≡ own_after_lines st lines) × (done ≡ answers_of st lines)
+pub lines_are_direct : (memory : List ℕ) (st st2 : Own) (lines : List Line) (done : List Answer) → Lines OwnSteps memory st lines st2 done → (st2 ≡ own_after_lines st lines) × (done ≡ answers_of st lines)
 unfolding own_after_lines answers_of
-lines_are_direct st st2 [] done run = run
-lines_are_direct st st2 (line ∷ lines) done (mid, reply, others, step, same, rest) =
-    let later : (st2 ≡ own_after_lines mid lines) × (others ≡ answers_of mid lines) = lines_are_direct mid st2 lines others rest in (
+lines_are_direct memory st st2 [] done run = run
+lines_are_direct memory st st2 (line ∷ lines) done (mid, reply, others, step, same, rest) =
+    let later : (st2 ≡ own_after_lines mid lines) × (others ≡ answers_of mid lines) = lines_are_direct memory mid st2 lines others rest in (
       later.0 ∙ ap (λ st. own_after_lines st lines) step.0,
       same ∙ ap (λ r. told_of line r ++ others) step.1 ∙ ap (λ os. told_of line (reply_of st (call_on line)) ++ os) (later.1 ∙ ap (λ s. answers_of s lines) step.0),
     )
 
 -- lines run, and then one more line whose call is carried out
-pub RunsLines-push : {S : Type 0} (starts ends later_ends : S → Type 0) (steps : S → Call → S → Reply → Type 0) (lines : List Line) (line : Line) (reply : Reply) (old new newer : List Answer) → RunsLines starts steps lines ends old new → ((st2 : S) → later_ends st2 → (st : S) × ends st × steps st (call_on line) st2 reply) → newer ≡ new ++ told_of line reply → RunsLines starts steps (lines ++ line ∷ []) later_ends old newer
-RunsLines-push {S} starts ends later_ends steps lines line reply old new newer run carries added = record {
+pub RunsLines-push : {S : Type 0} (starts ends later_ends : S → Type 0) (steps : Steps S) (memory : List ℕ) (lines : List Line) (line : Line) (reply : Replied) (old new newer : List Answer) → RunsLines starts steps memory lines ends old new → ((st2 : S) → later_ends st2 → (st : S) × ends st × steps st (call_on line) (memory_of memory) st2 reply) → newer ≡ new ++ told_of line reply → RunsLines starts steps memory (lines ++ line ∷ []) later_ends old newer
+RunsLines-push {S} starts ends later_ends steps memory lines line reply old new newer run carries added = record {
   done = run.done ++ told_of line reply;
   extended = added ∙ ap (λ answers. answers ++ told_of line reply) run.extended ∙ append_assoc old run.done (told_of line reply);
   leads = λ st2 h.
       let mid = carries st2 h in
       let before = run.leads mid.0 mid.1 in
-      (before.0, before.1, Lines-push steps before.0 mid.0 st2 lines line run.done reply before.2 mid.2);
+      (before.0, before.1, Lines-push steps memory before.0 mid.0 st2 lines line run.done reply before.2 mid.2);
 }
 
 -- no lines run, from where all that is stood for may start
-pub RunsLines-nil : {S : Type 0} (starts : S → Type 0) (steps : S → Call → S → Reply → Type 0) (old : List Answer) → RunsLines starts steps [] starts old old
-RunsLines-nil starts steps old = record { done = []; extended = sym (append-nil old); leads = λ st2 h. (st2, h, (refl, refl)) }
+pub RunsLines-nil : {S : Type 0} (starts : S → Type 0) (steps : Steps S) (memory : List ℕ) (old : List Answer) → RunsLines starts steps memory [] starts old old
+RunsLines-nil starts steps memory old = record { done = []; extended = sym (append-nil old); leads = λ st2 h. (st2, h, (refl, refl)) }
 
 -- the calls of the lines from a place on: that of the line there, and those from the next place on
-pub calls_of-drop : (lines : List Line) (i : ℕ) (d : Line) → i < length lines → calls_of (drop i lines) ≡ call_on (get_or lines i d) ∷ calls_of (drop (i + 1) lines)
+pub calls_of-drop : (lines : List Line) (i : ℕ) (d : Line) → i < length lines → calls_of (drop i lines) ≡ issued (call_on (get_or lines i d)) ∷ calls_of (drop (i + 1) lines)
 calls_of-drop lines i d inside = ap (λ ls. calls_of ls) (drop_more lines i d inside)
 
 -- what a call leads to, an equal call does
-pub carries_same : {S : Type 0} (ends later_ends : S → Type 0) (steps : S → Call → S → Reply → Type 0) (call other : Call) (reply : Reply) → call ≡ other → ((st2 : S) → later_ends st2 → (st : S) × ends st × steps st call st2 reply) → (st2 : S) → later_ends st2 → (st : S) × ends st × steps st other st2 reply
-carries_same {S} ends later_ends steps call other reply same carries =
-    let P : Call → Type 0 = λ k. (st2 : S) → later_ends st2 → (st : S) × ends st × steps st k st2 reply in
+pub carries_same : {S : Type 0} (ends later_ends : S → Type 0) (steps : Steps S) (memory : List ℕ) (call other : Call) (reply : Replied) → call ≡ other → ((st2 : S) → later_ends st2 → (st : S) × ends st × steps st call (memory_of memory) st2 reply) → (st2 : S) → later_ends st2 → (st : S) × ends st × steps st other (memory_of memory) st2 reply
+carries_same {S} ends later_ends steps memory call other reply same carries =
+    let P : Call → Type 0 = λ k. (st2 : S) → later_ends st2 → (st : S) × ends st × steps st k (memory_of memory) st2 reply in
+    subst P same carries
+
+-- what a call on a memory leads to, it does on an equal one
+pub on_memory : {S : Type 0} (ends later_ends : S → Type 0) (steps : Steps S) (memory other : List ℕ) (call : Call) (reply : Replied) → memory ≡ other → ((st2 : S) → later_ends st2 → (st : S) × ends st × steps st call (memory_of memory) st2 reply) → (st2 : S) → later_ends st2 → (st : S) × ends st × steps st call (memory_of other) st2 reply
+on_memory {S} ends later_ends steps memory other call reply same carries =
+    let P : List ℕ → Type 0 = λ bytes. (st2 : S) → later_ends st2 → (st : S) × ends st × steps st call (memory_of bytes) st2 reply in
     subst P same carries
 
 -- what a front stands for at the end, its rail launched with a first context, is the end of the direct machine; and so are the answers
-run_from_new : {R : Type 0} (stands : R → Own → Type 0) (rail : R) (first driver : Own) (later flushed : Fronting R) (lines : List Line) (answers : List Answer) → ((st : Own) → stands rail st → st ≡ first) → RunsLines (StandsFor stands context_steps (new_front rail)) context_steps lines (StandsFor stands context_steps later) [] answers → StandsForNoMore (StandsFor stands context_steps later) (StandsFor stands context_steps flushed) → flushed.calls ≡ [] → stands flushed.rail driver → (driver ≡ own_after_lines first lines) × (answers ≡ answers_of first lines)
-run_from_new {R} stands rail first driver later flushed lines answers only run flush none ends =
-    let P : List Call → Type 0 = λ calls. RunsFrom (stands flushed.rail) context_steps calls driver in
-    let at_end : RunsFrom (stands flushed.rail) context_steps [] driver = record { start = driver; may_start = ends; run = refl } in
+run_from_new : {R : Type 0} (stands : R → Own → Type 0) (rail : R) (memory bytes : List ℕ) (first driver : Own) (later flushed : Fronting R) (lines : List Line) (answers : List Answer) → ((st : Own) → stands rail st → st ≡ first) → RunsLines (StandsFor stands OwnSteps (new_front rail bytes)) OwnSteps memory lines (StandsFor stands OwnSteps later) [] answers → StandsForNoMore (StandsFor stands OwnSteps later) (StandsFor stands OwnSteps flushed) → flushed.calls ≡ [] → stands flushed.rail driver → (driver ≡ own_after_lines first lines) × (answers ≡ answers_of first lines)
+run_from_new {R} stands rail memory bytes first driver later flushed lines answers only run flush none ends =
+    let P : List Spelled → Type 0 = λ calls. RunsFrom (stands flushed.rail) OwnSteps calls driver in
+    let at_end : RunsFrom (stands flushed.rail) OwnSteps [] driver = record { start = driver; may_start = ends; run = refl } in
     let start = run.leads driver (flush driver (subst P (sym none) at_end)) in
     let is_first : start.0 ≡ first = start.1.run ∙ only start.1.start start.1.may_start in
-    let direct : (driver ≡ own_after_lines start.0 lines) × (run.done ≡ answers_of start.0 lines) = lines_are_direct start.0 driver lines run.done start.2 in
+    let direct : (driver ≡ own_after_lines start.0 lines) × (run.done ≡ answers_of start.0 lines) = lines_are_direct memory start.0 driver lines run.done start.2 in
     (direct.0 ∙ ap (λ st. own_after_lines st lines) is_first, run.extended ∙ (direct.1 ∙ ap (λ st. answers_of st lines) is_first))
 
 -- the same of a run whose words are known to be those by equations alone
-pub run_is_direct : {R : Type 0} (stands : R → Own → Type 0) (rail back : R) (front later flushed : Fronting R) (driver : Own) (script : Scripted) (lines : List Line) (old answers : List Answer) → ((st : Own) → stands rail st → st ≡ first_own script.width script.height) → front ≡ new_front rail → lines ≡ script.lines → old ≡ [] → RunsLines (StandsFor stands context_steps front) context_steps lines (StandsFor stands context_steps later) old answers → StandsForNoMore (StandsFor stands context_steps later) (StandsFor stands context_steps flushed) → flushed.calls ≡ [] → back ≡ flushed.rail → stands back driver → (driver ≡ final_own script) × (answers ≡ script_answers script)
+pub run_is_direct : {R : Type 0} (stands : R → Own → Type 0) (rail back : R) (memory bytes : List ℕ) (front later flushed : Fronting R) (driver : Own) (script : Scripted) (lines : List Line) (old answers : List Answer) → ((st : Own) → stands rail st → st ≡ first_own script.width script.height) → front ≡ new_front rail bytes → lines ≡ script.lines → old ≡ [] → RunsLines (StandsFor stands OwnSteps front) OwnSteps memory lines (StandsFor stands OwnSteps later) old answers → StandsForNoMore (StandsFor stands OwnSteps later) (StandsFor stands OwnSteps flushed) → flushed.calls ≡ [] → back ≡ flushed.rail → stands back driver → (driver ≡ final_own script) × (answers ≡ script_answers script)
 unfolding final_own script_answers
-run_is_direct {R} stands rail back front later flushed driver script lines old answers only is_new same_lines none run flush none_open is_back ends =
-    let P : Fronting R → Type 0 = λ f. RunsLines (StandsFor stands context_steps f) context_steps lines (StandsFor stands context_steps later) old answers in
-    let Q : List Line → Type 0 = λ ls. RunsLines (StandsFor stands context_steps (new_front rail)) context_steps ls (StandsFor stands context_steps later) old answers in
-    let U : List Answer → Type 0 = λ as1. RunsLines (StandsFor stands context_steps (new_front rail)) context_steps script.lines (StandsFor stands context_steps later) as1 answers in
+run_is_direct {R} stands rail back memory bytes front later flushed driver script lines old answers only is_new same_lines none run flush none_open is_back ends =
+    let P : Fronting R → Type 0 = λ f. RunsLines (StandsFor stands OwnSteps f) OwnSteps memory lines (StandsFor stands OwnSteps later) old answers in
+    let Q : List Line → Type 0 = λ ls. RunsLines (StandsFor stands OwnSteps (new_front rail bytes)) OwnSteps memory ls (StandsFor stands OwnSteps later) old answers in
+    let U : List Answer → Type 0 = λ as1. RunsLines (StandsFor stands OwnSteps (new_front rail bytes)) OwnSteps memory script.lines (StandsFor stands OwnSteps later) as1 answers in
     let V : R → Type 0 = λ r. stands r driver in
-    run_from_new stands rail (first_own script.width script.height) driver later flushed script.lines answers only (subst U none (subst Q same_lines (subst P is_new run))) flush none_open (subst V is_back ends)
+    run_from_new stands rail memory bytes (first_own script.width script.height) driver later flushed script.lines answers only (subst U none (subst Q same_lines (subst P is_new run))) flush none_open (subst V is_back ends)
 
 -- the image of the last context is that of the script's end
 pub image_is : (width height : ℕ) (pixels : List (List ℕ)) (own end_own : Own) (image : List ℕ) → image ≡ ppm_of width height pixels → width ≡ own.width → height ≡ own.height → pixels ≡ own.pixels → own ≡ end_own → image ≡ frame_of end_own

@@ -1,16 +1,20 @@
 -- The direct machine: it carries out each call as its line is read. It knows no batch, slot, class or front; own.
-use Rattle.std.specs.Prelude.{List, [], ◌∷◌, ◌++◌}
-use Rattle.gl_front.specs.declared.driver.Reply.{Reply}
-use Rattle.gl_front.specs.declared.driver.Reply.TheVariants.{Nothing, One}
+use Rattle.std.specs.Prelude.{ℤ, List, [], ◌∷◌, ◌++◌, map}
+use Rattle.driver_trait.specs.Reply.{Replied, Nothing, Numbers, Bytes}
 use Rattle.script_reader.specs.declared.script.Line.{Line}
 use Rattle.replay_core.specs.declared.lines.Answer.{Answer}
 use Rattle.replay_core.specs.Script.{Scripted, call_on}
 use Rattle.replay_core.specs.Own.{Own, first_own, own_after, reply_of}
 
--- what the report tells of a line whose call had this reply: a number, where there was one; own
-abbrev pub told_of : Line → Reply → List Answer
+-- what the report tells of the numbers that a line's call replied: each, in order; own
+unfoldable pub told_numbers : Line → List ℤ → List Answer
+told_numbers line numbers = map (λ number. record { line = line.number; call = call_on line; number = number }) numbers
+
+-- what the report tells of a line whose call had this reply; own
+abbrev pub told_of : Line → Replied → List Answer
 told_of line Nothing = []
-told_of line (One number) = record { line = line.number; call = call_on line; number = number } ∷ []
+told_of line (Numbers numbers) = told_numbers line numbers
+told_of line (Bytes bytes) = []
 
 -- the context after lines; own
 unfoldable pub own_after_lines : Own → List Line → Own

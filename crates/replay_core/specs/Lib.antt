@@ -12,9 +12,9 @@ pub mod Words
 pub use Rattle.gl_words.specs.Call
 pub use Rattle.gl_words.specs.CallOf
 pub use Rattle.batch_pack.specs.Cutting
-pub use Rattle.gl_front.specs.Driver
-pub use Rattle.gl_front.specs.Rail
-pub use Rattle.gl_front.specs.Maker
+pub use Rattle.driver_trait.specs.Driver
+pub use Rattle.batch_rail.specs.Rail
+pub use Rattle.batch_rail.specs.Maker
 pub use Rattle.script_reader.specs.Grammar
 pub use Rattle.script_reader.specs.Cutting as CuttingText
 pub use Rattle.script_reader.specs.Judged

@@ -4,8 +4,7 @@ use Rattle.gl_words.specs.declared.call.Call.{Call}
 use Rattle.gl_words.specs.declared.error.GlError.{GlError}
 use Rattle.gl_words.specs.GlError.{code_of}
 use Rattle.gl_words.specs.declared.call.Call.TheVariants.{Clear, ClearColorx, Finish, Flush, GetError}
-use Rattle.gl_front.specs.declared.driver.Reply.{Reply}
-use Rattle.gl_front.specs.declared.driver.Reply.TheVariants.{Nothing, One}
+use Rattle.driver_trait.specs.Reply.{Replied, Nothing, Numbers}
 
 -- a context: its recorded error or 0, its clear colour in 16.16 fixed, its sides in pixels, and its pixels row by row from the bottom, four bytes each (sections 2.5, 4.2.3)
 pub record Own : Type 0 where
@@ -70,9 +69,9 @@ own_after own Flush = own
 own_after own GetError = record own { fault = 0 }
 
 -- what a call replies: GetError the recorded error, all others nothing (section 2.5)
-unfoldable pub reply_of : Own → Call → Reply
+unfoldable pub reply_of : Own → Call → Replied
 reply_of own (Clear mask) = Nothing
 reply_of own (ClearColorx red green blue alpha) = Nothing
 reply_of own Finish = Nothing
 reply_of own Flush = Nothing
-reply_of own GetError = One (pos own.fault)
+reply_of own GetError = Numbers (pos own.fault ∷ [])

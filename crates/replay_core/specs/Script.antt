@@ -1,7 +1,8 @@
 -- A script as data for the direct machine: one context, and its calls, each with the number of its line; own.
-use Rattle.std.specs.Prelude.{◌≡◌, ℕ, List, [], ◌∷◌, map}
+use Rattle.std.specs.Prelude.{◌≡◌, ℕ, ◌≤◌, List, [], ◌∷◌, map}
 use Rattle.replay_core.specs.Own.{AreSides}
 use Rattle.gl_words.specs.declared.call.Call.{Call}
+use Rattle.batch_pack.specs.Cutting.{Issued, issued}
 use Rattle.script_reader.specs.declared.script.Act.{Act}
 use Rattle.script_reader.specs.declared.script.Act.TheVariants.{Gl}
 use Rattle.script_reader.specs.declared.script.ContextSpec.{ContextSpec}
@@ -35,12 +36,13 @@ first_context (context ∷ contexts) = context
 abbrev pub seen_script : Script → Scripted
 seen_script script = record { width = (first_context script.contexts).width; height = (first_context script.contexts).height; lines = script.lines }
 
--- the calls of lines, in order; own
-abbrev pub calls_of : List Line → List Call
-calls_of lines = map call_on lines
+-- the calls of lines as they are issued, in order; own
+abbrev pub calls_of : List Line → List Issued
+calls_of lines = map (λ line. issued (call_on line)) lines
 
--- the contexts are one, with sides of 1 to 256 pixels; own
+-- the contexts are one, with sides of 1 to 256 pixels and at most 1,048,576 bytes of memory; own
 pub record IsOneContext (contexts : List ContextSpec) : Type 0 where
   pub context : ContextSpec
   pub only : contexts ≡ context ∷ []
   pub sides : AreSides context.width context.height
+  pub memory : context.memory ≤ 1048576

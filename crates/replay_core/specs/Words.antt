@@ -3,9 +3,9 @@ use Rattle.std.specs.Prelude.{ℕ, ◌+◌, ◌*◌, ◌-◌, ◌&&◌, if◌the
 use Rattle.std.specs.Option.{option_map, ForSome}
 use Rattle.std.specs.Str.{bytes_eq}
 use Rattle.batch_pack.specs.Batch.{IsBatchSize}
-use Rattle.gl_front.specs.declared.maker.RailKind.{RailKind}
-use Rattle.gl_front.specs.declared.maker.RailKind.TheVariants.{Inline}
-use Rattle.gl_front.specs.Maker.{IsRingLength}
+use Rattle.batch_rail.specs.declared.maker.RailKind.{RailKind}
+use Rattle.batch_rail.specs.declared.maker.RailKind.TheVariants.{Inline}
+use Rattle.batch_rail.specs.Maker.{IsRingLength}
 use Rattle.replay_core.specs.declared.words.Command.{Command}
 use Rattle.replay_core.specs.declared.words.Command.TheVariants.{Run, Direct}
 use Rattle.replay_core.specs.declared.words.Given.{Given}

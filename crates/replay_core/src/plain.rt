@@ -1,21 +1,20 @@
 //! The direct machine and the counts, by slow and plain programs. No batch is filled here, and no front stands here.
 
 ghost use Rattle.std.specs.Prelude.{◌≡◌, ◌+◌, ◌≤◌, ◌<◌, ◌^◌, ℕ, List, [], ◌∷◌, ◌++◌, length, count_by, Bool, true, false, IfOk, OnOk};
-ghost use Rattle.gl_words.specs.declared.call.Call.{Call};
 ghost use Rattle.batch_pack.specs.declared.class.Class.TheVariants.{Defer};
 ghost use Rattle.batch_pack.specs.Batch.{slots_used};
 ghost use Rattle.batch_pack.specs.Class.{class_of};
-ghost use Rattle.batch_pack.specs.Spelling.{slots_of};
-ghost use Rattle.batch_pack.specs.Cutting.{batch_unless_empty, batches_from, ended_at, ended_by, is_class, open_after, open_by, tally_of};
+ghost use Rattle.batch_pack.specs.Spelling.{Spelled, slots_of};
+ghost use Rattle.batch_pack.specs.Cutting.{batch_unless_empty, batches_from, ended_at, ended_by, is_class, issued, open_after, open_by, tally_of};
 ghost use Rattle.replay_core.specs.Script.{IsOneContext, call_on, calls_of, seen_script, most_lines};
-ghost use Rattle.replay_core.specs.Direct.{final_own, script_answers, told_of};
+ghost use Rattle.replay_core.specs.Direct.{final_own, script_answers};
 ghost use Rattle.replay_core.specs.Report.{counted, report_of};
 
-use crate::lines::{Answer, call_of_line, only_context};
+use crate::lines::{Answer, call_of_line, note, only_context};
 use crate::soft::Soft;
 use crate::text::{Text, report};
 use batch_pack::{Class, call_class, sends_batch};
-use gl_front::{Counts, Reply};
+use gl_front::Counts;
 use gl_words::{Call, arg_count};
 use script_reader::{Line, Script};
 use std::alloc::{AllocError as NoMemory, Global};
@@ -41,27 +40,9 @@ pub fn direct(alloc: Global, script: &Script) -> Result<DirectRun, NoMemory>
     let lines = script.lines.as_slice();
     for line in lines {
         let reply = soft.carry_out(call_of_line(line));
-        tell(&mut answers, line, reply)?;
+        note(&mut answers, line, &reply)?;
     }
     Ok(DirectRun { answers, soft })
-}
-
-/// Appends what the report tells of a line.
-fn tell(answers: &mut Vec<Answer>, line: &Line, reply: Reply) -> Result<(), NoMemory>
-    ensures { OnOk result (answers.new.items ≡ answers.old.items ++ told_of line.now reply) }
-{
-    match reply {
-        Reply::Nothing => Ok(()),
-        Reply::One(number) => {
-            let answer = Answer {
-                line: line.number,
-                call: *call_of_line(line),
-                number,
-            };
-            answers.push(answer)?;
-            Ok(())
-        }
-    }
 }
 
 /// The report of a script, with batches of so many slots; own.
@@ -138,10 +119,10 @@ fn batches(size: u64, lines: &[Line]) -> u64
 /// How many batches end at a call, and how many slots the calls of the open batch then take.
 fn cut(size: u64, used: u64, call: &Call) -> (u64, u64)
     requires { used < 2 ^ 32 }
-    ensures ended { (batch : List Call) → slots_used batch ≡ used
-        → result.0 ≡ length (ended_at size batch call.now) }
-    ensures used { (batch : List Call) → slots_used batch ≡ used
-        → result.1 ≡ slots_used (open_after size batch call.now) }
+    ensures ended { (batch : List Spelled) → slots_used batch ≡ used
+        → result.0 ≡ length (ended_at size batch (issued call.now)) }
+    ensures used { (batch : List Spelled) → slots_used batch ≡ used
+        → result.1 ≡ slots_used (open_after size batch (issued call.now)) }
     ensures few { result.0 ≤ 2 }
     ensures small { result.1 ≤ used + 10 }
 {
@@ -155,10 +136,10 @@ fn cut(size: u64, used: u64, call: &Call) -> (u64, u64)
 /// The same of a deferred call.
 fn defer(size: u64, used: u64, call: &Call) -> (u64, u64)
     requires { used < 2 ^ 32 }
-    ensures ended { (batch : List Call) → slots_used batch ≡ used
-        → result.0 ≡ length (ended_by Defer size batch call.now) }
-    ensures used { (batch : List Call) → slots_used batch ≡ used
-        → result.1 ≡ slots_used (open_by Defer size batch call.now) }
+    ensures ended { (batch : List Spelled) → slots_used batch ≡ used
+        → result.0 ≡ length (ended_by Defer size batch (issued call.now).spelled) }
+    ensures used { (batch : List Spelled) → slots_used batch ≡ used
+        → result.1 ≡ slots_used (open_by Defer size batch (issued call.now).spelled) }
     ensures few { result.0 ≤ 2 }
     ensures small { result.1 ≤ used + 10 }
 {
@@ -173,9 +154,8 @@ fn defer(size: u64, used: u64, call: &Call) -> (u64, u64)
 }
 
 /// How many slots a call takes.
-#[tactic(auto, unfolding(batch_pack::specs::Spelling::slots_of))]
 fn slots(call: &Call) -> u64
-    ensures slots { result ≡ slots_of call.now }
+    ensures slots { result ≡ slots_of (issued call.now).spelled }
     ensures few { result ≤ 10 }
 {
     1 + arg_count(call) as u64
@@ -183,7 +163,7 @@ fn slots(call: &Call) -> u64
 
 /// Whether an open batch with calls in so many slots is a batch: 1, or 0 where it has none.
 fn open_batches(used: u64) -> u64
-    ensures batch { (batch : List Call) → slots_used batch ≡ used
+    ensures batch { (batch : List Spelled) → slots_used batch ≡ used
         → result ≡ length (batch_unless_empty batch) }
     ensures few { result ≤ 1 }
 {

@@ -2,7 +2,7 @@
 
 ghost use Rattle.std.specs.Prelude.{◌≡◌, ◌≤◌, length, IfOk};
 ghost use Rattle.batch_pack.specs.Batch.{IsBatchSize};
-ghost use Rattle.gl_front.specs.Maker.{IsRingLength};
+ghost use Rattle.batch_rail.specs.Maker.{IsRingLength};
 ghost use Rattle.replay_core.specs.Script.{IsOneContext, seen_script, most_lines};
 ghost use Rattle.replay_core.specs.Direct.{final_own, script_answers};
 ghost use Rattle.replay_core.specs.Images.{frame_of};
@@ -16,7 +16,9 @@ use crate::plain::direct;
 use crate::soft::Soft;
 use crate::text::{Text, direct_report, report};
 use crate::words::Command;
-use gl_front::{Front, RailMaker};
+use batch_rail::RailMaker;
+use gl_front::Front;
+use gl_memory::ClientMemory;
 use script_reader::Script;
 use std::alloc::{AllocError as NoMemory, Global};
 use std::thread::Threads;
@@ -95,15 +97,17 @@ fn run_script<T: Threads + Sync, R: RailMaker<Soft>>(
         Ok(rail) => rail,
         Err((_driver, refusal)) => return Err(refusal),
     };
-    let mut front = match Front::new(alloc, rail) {
+    let memory = ClientMemory::new(alloc, context.memory)?;
+    let mut front = match Front::new(alloc, rail, memory) {
         Ok(front) => front,
-        Err((_rail, refusal)) => return Err(refusal),
+        Err((_rail, _memory, refusal)) => return Err(refusal),
     };
     let mut answers = Vec::new(alloc);
     run_lines(rt, &mut front, script.lines.as_slice(), &mut answers)?;
     front.flush(rt);
     let counts = front.counts();
-    let driver = rails.close(0, front.into_parts())?;
+    let (rail, _memory) = front.into_parts();
+    let driver = rails.close(0, rail)?;
     Ok(Output {
         image: ppm(alloc, driver.width(), driver.height(), driver.pixels())?,
         report: report(alloc, &answers, &counts)?,

@@ -5,13 +5,14 @@ ghost use Rattle.std.specs.Thread.{IsSync};
 ghost use Rattle.gl_words.specs.declared.call.Call.{Call};
 ghost use Rattle.gl_words.specs.declared.call.Call.TheVariants.{Clear};
 ghost use Rattle.gl_words.specs.GlError.{code_of};
-ghost use Rattle.gl_front.specs.declared.driver.Reply.{Reply};
+ghost use Rattle.driver_trait.specs.Reply.{Replied, replied};
 ghost use Rattle.replay_core.specs.Own.{Own, AreSides, IsWhole, code_of_fault, first_own, own_after, reply_of};
-ghost use Rattle.replay_core.specs.Soft.{soft_is_driver};
+ghost use Rattle.replay_core.specs.Soft.{own_tracked, OwnSteps, soft_is_driver};
 
 use crate::colour::Colour;
 use crate::frame::Frame;
-use gl_front::{Driver, Machine, Reply};
+use driver_trait::{Driver, Machine, Reply};
+use gl_memory::Memory;
 use gl_words::{Call, GlError};
 use std::alloc::{AllocError as NoMemory, Global};
 use std::marker::Model;
@@ -82,7 +83,7 @@ impl Soft {
     #[tactic(auto, unfolding(crate::specs::Own::own_after, crate::specs::Own::reply_of))]
     pub(crate) fn carry_out(&mut self, call: &Call) -> Reply
         ensures after { self.new ≡ own_after self.old call.now }
-        ensures reply { result ≡ reply_of self.old call.now }
+        ensures reply { replied result ≡ reply_of self.old call.now }
     {
         match call {
             Call::Clear { mask } => {
@@ -117,13 +118,20 @@ impl Soft {
 }
 
 impl Machine for Soft {
-    ghost steps = { λ st call st2 reply. (st2 ≡ own_after st call) × (reply ≡ reply_of st call) };
+    ghost tracked = { own_tracked };
+
+    ghost steps = { OwnSteps };
 
     ghost laws = { soft_is_driver };
 }
 
 impl Driver for Soft {
-    fn call<T: Threads + Sync>(&mut self, _rt: &T, call: &Call) -> Result<Reply, NoMemory> {
+    fn call<T: Threads + Sync, M: Memory>(
+        &mut self,
+        _rt: &T,
+        call: &Call,
+        _memory: &M,
+    ) -> Result<Reply, NoMemory> {
         Ok(self.carry_out(call))
     }
 }

@@ -17,7 +17,7 @@ use crate::run::run_command;
 use crate::soft::Soft;
 use crate::status::Status;
 use crate::words::command_in;
-use gl_front::RailMaker;
+use batch_rail::RailMaker;
 use gl_outside::{ReadError, Shelf, Sink, Source, read_up_to};
 use script_reader::{ReadRefusal, read};
 use std::alloc::Global;

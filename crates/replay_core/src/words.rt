@@ -4,7 +4,7 @@ ghost use Rattle.std.specs.Prelude.{◌≡◌, ◌≤◌, ◌<◌, ◌^◌, IfSo
 ghost use Rattle.std.specs.Option.{option_map};
 ghost use Rattle.replay_core.specs.Words.{texts_of, decimal_digit_of, decimal_of, decimal_within, rail_named, none_given, with_option, options_of, run_with, command_of, rail_in, AreWithinLimits, IsWithinLimits};
 
-use gl_front::RailKind;
+use batch_rail::RailKind;
 
 /// What the program is told to do; own.
 #[derive(Clone, Copy, Debug, PartialEq, Eq)]

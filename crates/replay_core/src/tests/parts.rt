@@ -1,10 +1,12 @@
 //! What no clause says: that the calls succeed, and the bytes that another program gives.
 
+use crate::lines::note;
 use crate::{Soft, Status, direct, exit_code, plain_report, ppm};
-use gl_front::{Driver, Reply};
+use driver_trait::{Driver, Numbers, Reply};
+use gl_memory::ClientMemory;
 use gl_words::Call;
-use script_reader::{Limit, ScriptError, ScriptFault, read};
-use std::alloc::AllocError;
+use script_reader::{Act, Limit, Line, ScriptError, ScriptFault, read};
+use std::alloc::{AllocError, Global};
 use std::test::Fail;
 use std::thread::Threads;
 
@@ -97,24 +99,48 @@ fn each_status_has_its_number_and_its_text(rt: HostRuntime) -> Result<(), Fail> 
     Ok(())
 }
 
-fn replied<T: Threads + Sync, D: Driver>(
+/// The number that a driver replies to a call on memory, where it replies one.
+fn number_replied<T: Threads + Sync, D: Driver>(
     rt: &T,
+    alloc: Global,
     driver: &mut D,
     call: &Call,
-) -> Result<Reply, AllocError> {
-    driver.call(rt, call)
+) -> Result<Option<i64>, AllocError> {
+    let memory = ClientMemory::new(alloc, 0)?;
+    Ok(match driver.call(rt, call, &memory)? {
+        Reply::One(number) => Some(number),
+        Reply::Nothing | Reply::Numbers(_) | Reply::Bytes(_) => None,
+    })
 }
 
 #[test]
 fn the_driver_is_called_through_its_trait(rt: HostRuntime) -> Result<(), Fail> {
     let mut soft = Soft::new(rt.alloc(), 1, 1)?;
     let calls = [
-        (Call::Clear { mask: 1 }, Reply::Nothing),
-        (Call::GetError, Reply::One(1281)),
-        (Call::GetError, Reply::One(0)),
+        (Call::Clear { mask: 1 }, None),
+        (Call::GetError, Some(1281)),
+        (Call::GetError, Some(0)),
     ];
-    for (call, reply) in &calls {
-        assert_eq!(rt; replied(&rt, &mut soft, call)?, *reply);
+    for (call, number) in &calls {
+        assert_eq!(rt; number_replied(&rt, rt.alloc(), &mut soft, call)?, *number);
     }
+    Ok(())
+}
+
+#[test]
+fn each_number_of_a_reply_is_told(rt: HostRuntime) -> Result<(), Fail> {
+    let line = Line {
+        number: 4,
+        context: 0,
+        act: Act::Gl(Call::GetError),
+    };
+    let mut numbers = Numbers::new(rt.alloc(), 2)?;
+    numbers.push(7);
+    numbers.push(-1);
+    let mut answers = Vec::new(rt.alloc());
+    note(&mut answers, &line, &Reply::Numbers(numbers))?;
+    assert_eq!(rt; answers.len(), 2);
+    assert_eq!(rt; answers[0].number, 7);
+    assert_eq!(rt; answers[1].number, -1);
     Ok(())
 }

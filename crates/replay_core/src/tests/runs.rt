@@ -1,7 +1,7 @@
 //! Whole runs of the top call over objects in memory.
 
 use crate::{Status, rail_of, replay_alone};
-use gl_front::{InlineMaker, RailKind};
+use batch_rail::{InlineMaker, RailKind};
 use gl_outside::{MemoryShelf, MemorySink, MemorySource};
 use script_reader::{Limit, ScriptError, ScriptFault};
 use std::alloc::{AllocError, Global};

@@ -1,7 +1,7 @@
 //! What words are a command, by the table of the words in the formats.
 
 use crate::{Command, command_in, rail_of};
-use gl_front::RailKind;
+use batch_rail::RailKind;
 use std::alloc::{AllocError, Global};
 use std::test::Fail;
 

@@ -3,6 +3,7 @@ use Rattle.std.proofs.lemmas.List.{append-nil}
 use Rattle.gl_words.specs.declared.call.Call.TheVariants.{Clear}
 use Rattle.script_reader.specs.declared.script.Act.TheVariants.{Gl}
 use Rattle.script_reader.specs.declared.script.Line.{Line}
+use Rattle.driver_trait.specs.Reply.{replied}
 use Rattle.replay_core.specs.Own.{first_own, own_after, reply_of}
 use Rattle.replay_core.specs.Script.{first_context}
 use Rattle.replay_core.specs.Direct.{answers_of, own_after_lines, final_own, script_answers}
@@ -16,8 +17,8 @@ loop-line-preserved c =
     let line : Line = record { number = 0; context = 0; act = Gl (Clear 0) } in
     let same = c.call_of_line.ensures in
     let after = c.carry_out-reply.ensures.after ∙ ap (λ k. own_after c.loop-line.soft k) same in
-    let replied = c.carry_out-reply.ensures.reply ∙ ap (λ k. reply_of c.loop-line.soft k) same in (
-      told-step c.loop-line.answers.items c.tell.new.answers.items c.loop-line.soft c.carry_out-reply.new.self c.carry_out-reply.result lines at line (omega arith) c.in_ok-tell.ensures after replied
+    let answered = c.carry_out-reply.ensures.reply ∙ ap (λ k. reply_of c.loop-line.soft k) same in (
+      told-step c.loop-line.answers.items c.note.new.answers.items c.loop-line.soft c.carry_out-reply.new.self (replied c.carry_out-reply.result) lines at line (omega arith) c.in_ok-note.ensures.ok after answered
           ∙ c.loop-line.invariant.0,
       ap (λ own. own_after_lines own (drop (at + 1) lines)) after
           ∙ sym (own_after_lines-drop c.loop-line.soft lines at line (omega arith))

@@ -9,13 +9,13 @@ use Rattle.replay_core.proofs.run.run_script.Goals as goal
 
 pub returns-clause-image : goal.returns-clause-image
 returns-clause-image g c =
-    let direct = run_is_direct g.R.Made.RailState.stands c.in-Ok.rail c.into_parts.result c.in-Ok-new.front c.run_lines.new.front c.flush.new.self c.in_ok-driver-2.driver (seen_script c.args.script.now) c.as_slice.result.now c.new-answers.result.items c.run_lines.new.answers.items
-    (λ st h. c.in-Ok.ensures.ok.only st h ∙ (c.in_ok-driver.ensures ∙ ap (λ k. first_own k.width k.height) c.only_context-context.ensures.context)) c.in-Ok-new.ensures.ok c.as_slice.ensures c.new-answers.ensures.items c.in_ok-run_lines.ensures.ok c.flush.ensures.stands c.flush.ensures.open_batch c.into_parts.ensures.rail c.in_ok-driver-2.ensures.ok in
+    let direct = run_is_direct g.R.Made.RailState.stands c.in-Ok.rail c.into_parts-rail.result.0 c.in-Ok-new.front.memory c.in_ok-memory.memory c.in-Ok-new.front c.run_lines.new.front c.flush.new.self c.in_ok-driver-2.driver (seen_script c.args.script.now) c.as_slice.result.now c.new-answers.result.items c.run_lines.new.answers.items
+    (λ st h. c.in-Ok.ensures.ok.only st h ∙ (c.in_ok-driver.ensures ∙ ap (λ k. first_own k.width k.height) c.only_context-context.ensures.context)) c.in-Ok-new.ensures.ok c.as_slice.ensures c.new-answers.ensures.items c.in_ok-run_lines.ensures.ok c.flush.ensures.stands c.flush.ensures.open_batch c.into_parts-rail.ensures.rail c.in_ok-driver-2.ensures.ok in
     image_is c.width.result c.height.result c.pixels.result.now c.in_ok-driver-2.driver _ c.in_ok-ppm.field-0.items c.in_ok-ppm.ensures c.width.ensures c.height.ensures c.pixels.ensures.pixels direct.0
 
 pub returns-clause-report : goal.returns-clause-report
 returns-clause-report g c =
-    let direct = run_is_direct g.R.Made.RailState.stands c.in-Ok.rail c.into_parts.result c.in-Ok-new.front c.run_lines.new.front c.flush.new.self c.in_ok-driver-2.driver (seen_script c.args.script.now) c.as_slice.result.now c.new-answers.result.items c.run_lines.new.answers.items
-    (λ st h. c.in-Ok.ensures.ok.only st h ∙ (c.in_ok-driver.ensures ∙ ap (λ k. first_own k.width k.height) c.only_context-context.ensures.context)) c.in-Ok-new.ensures.ok c.as_slice.ensures c.new-answers.ensures.items c.in_ok-run_lines.ensures.ok c.flush.ensures.stands c.flush.ensures.open_batch c.into_parts.ensures.rail c.in_ok-driver-2.ensures.ok in
-    let counts = counts_are_tally g.R.Made.RailState.size c.args.batch c.in-Ok.rail c.in-Ok-new.front c.run_lines.new.front c.flush.new.self c.counts-counts.result (calls_of c.as_slice.result.now) c.in-Ok-new.ensures.ok c.in-Ok.ensures.ok.of_size c.in_ok-run_lines.ensures.counts c.flush.ensures.counts c.counts-counts.ensures in
+    let direct = run_is_direct g.R.Made.RailState.stands c.in-Ok.rail c.into_parts-rail.result.0 c.in-Ok-new.front.memory c.in_ok-memory.memory c.in-Ok-new.front c.run_lines.new.front c.flush.new.self c.in_ok-driver-2.driver (seen_script c.args.script.now) c.as_slice.result.now c.new-answers.result.items c.run_lines.new.answers.items
+    (λ st h. c.in-Ok.ensures.ok.only st h ∙ (c.in_ok-driver.ensures ∙ ap (λ k. first_own k.width k.height) c.only_context-context.ensures.context)) c.in-Ok-new.ensures.ok c.as_slice.ensures c.new-answers.ensures.items c.in_ok-run_lines.ensures.ok c.flush.ensures.stands c.flush.ensures.open_batch c.into_parts-rail.ensures.rail c.in_ok-driver-2.ensures.ok in
+    let counts = counts_are_tally g.R.Made.RailState.size c.args.batch c.in-Ok.rail c.in_ok-memory.memory c.in-Ok-new.front c.run_lines.new.front c.flush.new.self c.counts-counts.result (calls_of c.as_slice.result.now) c.in-Ok-new.ensures.ok c.in-Ok.ensures.ok.of_size c.in_ok-run_lines.ensures.counts c.flush.ensures.counts c.counts-counts.ensures in
     report_is c.args.batch (seen_script c.args.script.now) c.deref.result.now c.run_lines.new.answers.items (counted c.counts-counts.result) (counted c.counts-counts.result) c.in_ok-report.field-0 c.in_ok-report.ensures c.deref.ensures.value direct.1 refl (counts ∙ ap (λ ls. tally_of c.args.batch (calls_of ls)) c.as_slice.ensures)
