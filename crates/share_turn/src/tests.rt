@@ -18,8 +18,10 @@ fn two_seats(
 ) -> Result<(Turn<Pairs>, TurnSeat<Pairs>, TurnSeat<Pairs>), NoMemory>
     requires { All (λ pair. pair.0 < 2) pairs }
     ensures turn { IfOk result (λ made. seat_count made.0 ≡ 2) }
-    ensures first { IfOk result (λ made. IsSeatOf made.1 made.0 × IsIdle made.1 × (number_of made.1 ≡ 0)) }
-    ensures second { IfOk result (λ made. IsSeatOf made.2 made.0 × IsIdle made.2 × (number_of made.2 ≡ 1)) }
+    ensures first { IfOk result
+        (λ made. IsSeatOf made.1 made.0 × IsIdle made.1 × (number_of made.1 ≡ 0)) }
+    ensures second { IfOk result
+        (λ made. IsSeatOf made.2 made.0 × IsIdle made.2 × (number_of made.2 ≡ 1)) }
 {
     match Turn::new(alloc, pairs, 2) {
         Ok((turn, mut seats)) => {
