@@ -9,6 +9,10 @@ pub record ReadsFirst (first : Segment) (others : List Segment) (place : ℕ) : 
   pub before : place < first.start → byte_at (first ∷ others) place ≡ byte_at others place
   pub behind : first.start + length first.bytes ≤ place → byte_at (first ∷ others) place ≡ byte_at others place
 
+-- a memory that begins with a segment reads it first, at each place; own
+abbrev pub FirstIsRead : List Segment → Type 0
+FirstIsRead segments = (first : Segment) (others : List Segment) (place : ℕ) → segments ≡ first ∷ others → ReadsFirst first others place
+
 -- each place of client memory has the byte that was written there, and each place past it 0; own
 pub record ReadsBack (old : List ℕ) (at : ℕ) (bytes : List ℕ) : Type 0 where
   pub same_length : length (written old at bytes) ≡ length old

@@ -4,7 +4,7 @@ ghost use Rattle.std.specs.Prelude.{◌≡◌, ℕ, List, ◌∷◌, length};
 ghost use Rattle.gl_memory.specs.Segment.{Segment};
 ghost use Rattle.gl_memory.specs.Piece.{Agree, cut};
 ghost use Rattle.gl_memory.specs.Slots.{LieIn, lent};
-ghost use Rattle.gl_memory.specs.Laws.{ReadsFirst, ReadsBack};
+ghost use Rattle.gl_memory.specs.Laws.{FirstIsRead, ReadsBack};
 
 use crate::client_memory::ClientMemory;
 use crate::memory::Memory;
@@ -17,7 +17,7 @@ pub fn cut_law<M: Memory>(memory: &M, pieces: &Pieces)
 
 /// A place that the first segment holds has its byte, and each other place that of the other segments.
 pub fn segment_law<M: Memory>(memory: &M)
-    ensures { (first : Segment) (others : List Segment) (place : ℕ) → M.segments memory.now ≡ first ∷ others → ReadsFirst first others place }
+    ensures { FirstIsRead (M.segments memory.now) }
 {}
 
 /// Each place of client memory reads what was written there, and each place past it 0.

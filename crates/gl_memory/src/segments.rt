@@ -41,7 +41,8 @@ impl<'a> Segments<'a> {
         requires some { 1 ≤ len }
         requires end { start + len ≤ 2 ^ 62 }
         requires bytes { LieIn slots.now skip len }
-        ensures { self.new ≡ self.old ++ record { start = start; bytes = lent slots.now skip len } ∷ [] }
+        ensures { self.new
+            ≡ self.old ++ record { start = start; bytes = lent slots.now skip len } ∷ [] }
     {
         self.list.push(Lent {
             start,
