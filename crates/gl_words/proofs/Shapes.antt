@@ -1,5 +1,5 @@
 -- The table of shapes, as the columns of the table of calls.
-use Rattle.std.proofs.Common.{◌≡◌, ℕ, List, [], ◌∷◌, map, refl, sym, ap, ◌∙◌, Some, None, Option, IfSome, IsSomeAnd}
+use Rattle.std.proofs.Common.{◌≡◌, ℕ, ◌≤◌, List, [], ◌∷◌, length, map, refl, sym, ap, ◌∙◌, lit≤, subst, Some, None, Option, IfSome, IsSomeAnd}
 use Rattle.std.specs.Option.{option_map}
 use Rattle.std.specs.Str.{bytes_eq}
 use Rattle.std.proofs.lemmas.Slice.Eq.{bytes_eq-Decides}
@@ -10,7 +10,7 @@ use Rattle.gl_words.specs.Shape.{IsShapeOf, IsNamedShape, each_row, shapes, shap
 use Rattle.gl_words.specs.declared.shape.ArgKind.{ArgKind}
 use Rattle.gl_words.specs.declared.shape.Shape.{Shape}
 use Rattle.gl_words.specs.declared.call.Call.{Call}
-use Rattle.gl_words.specs.declared.call.Call.TheVariants.{Clear, ClearColorx, Finish, Flush, GetError}
+use Rattle.gl_words.specs.declared.call.Call.TheVariants.{Clear, ClearColorx, Finish, Flush, Frustumx, GetError, LoadIdentity, MatrixMode, Orthox, PopMatrix, PushMatrix, Rotatex, Scalex, Translatex, Viewport}
 
 abbrev pub shape_of : Call → ℕ × List ArgKind
 shape_of call = (id_of call, kinds_of call)
@@ -31,7 +31,17 @@ each_call_is_found (Clear mask) = refl
 each_call_is_found (ClearColorx red green blue alpha) = refl
 each_call_is_found Finish = refl
 each_call_is_found Flush = refl
+each_call_is_found (Frustumx left right bottom top near far) = refl
 each_call_is_found GetError = refl
+each_call_is_found LoadIdentity = refl
+each_call_is_found (MatrixMode mode) = refl
+each_call_is_found (Orthox left right bottom top near far) = refl
+each_call_is_found PopMatrix = refl
+each_call_is_found PushMatrix = refl
+each_call_is_found (Rotatex angle x y z) = refl
+each_call_is_found (Scalex x y z) = refl
+each_call_is_found (Translatex x y z) = refl
+each_call_is_found (Viewport x y width height) = refl
 
 none_is_not_some : {X : Type 0} (x : X) → None ≡ Some x → ⊥
 none_is_not_some x h = absurd (cc)
@@ -52,3 +62,14 @@ shape_of_call_is_found name None h call same = let e = each_call_is_found call i
 shape_of_call_is_found name (Some shape) h call same =
     let e : Some (seen_shape shape) ≡ Some (shape_of call) = h ∙ ap (found_in (shape_rows each_row)) (sym same) ∙ each_call_is_found call in
     (ap (λ (s : ℕ × List ArgKind). s.0) (some_is_some _ _ e), ap (λ (s : ℕ × List ArgKind). s.1) (some_is_some _ _ e))
+
+-- a call has at most nine arguments
+pub kinds_of-few : (call : Call) → length (kinds_of call) ≤ 9
+unfolding kinds_of
+kinds_of-few Finish = lit≤ tt
+kinds_of-few _ = lit≤ tt
+
+-- so has what is found by a name
+pub named_shape_is_short : (name : List ℕ) (result : Option Shape) → IfSome result (IsNamedShape name) → IfSome result (λ (shape : Shape). length shape.kinds.now ≤ 9)
+named_shape_is_short name None h = tt
+named_shape_is_short name (Some shape) h = subst (λ (kinds : List ArgKind). length kinds ≤ 9) (sym (h.2.1)) (kinds_of-few (h.0))

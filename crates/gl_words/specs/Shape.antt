@@ -3,7 +3,7 @@ use Rattle.std.specs.Prelude.{◌≡◌, ℕ, pos, List, [], ◌∷◌, Option, 
 use Rattle.gl_words.specs.Call.{name_of, id_of, kinds_of}
 use Rattle.gl_words.specs.Lookup.{found_in}
 use Rattle.gl_words.specs.declared.call.Call.{Call}
-use Rattle.gl_words.specs.declared.call.Call.TheVariants.{Clear, ClearColorx, Finish, Flush, GetError}
+use Rattle.gl_words.specs.declared.call.Call.TheVariants.{Clear, ClearColorx, Finish, Flush, Frustumx, GetError, LoadIdentity, MatrixMode, Orthox, PopMatrix, PushMatrix, Rotatex, Scalex, Translatex, Viewport}
 use Rattle.gl_words.specs.declared.shape.ArgKind.{ArgKind}
 use Rattle.gl_words.specs.declared.shape.Shape.{Shape}
 use Rattle.gl_words.specs.declared.shape.NamedShape.{NamedShape}
@@ -18,7 +18,12 @@ IsNamedShape name shape = (call : Call) × (name_of call ≡ name) × IsShapeOf 
 
 -- one call of each row of the table; own
 abbrev pub each_row : List Call
-each_row = Clear 0 ∷ ClearColorx (pos 0) (pos 0) (pos 0) (pos 0) ∷ Finish ∷ Flush ∷ GetError ∷ []
+each_row =
+    Clear 0 ∷ ClearColorx (pos 0) (pos 0) (pos 0) (pos 0) ∷ Finish ∷ Flush ∷
+    Frustumx (pos 0) (pos 0) (pos 0) (pos 0) (pos 0) (pos 0) ∷ GetError ∷
+    LoadIdentity ∷ MatrixMode 0 ∷
+    Orthox (pos 0) (pos 0) (pos 0) (pos 0) (pos 0) (pos 0) ∷ PopMatrix ∷ PushMatrix ∷ Rotatex (pos 0) (pos 0) (pos 0) (pos 0) ∷
+    Scalex (pos 0) (pos 0) (pos 0) ∷ Translatex (pos 0) (pos 0) (pos 0) ∷ Viewport (pos 0) (pos 0) (pos 0) (pos 0) ∷ []
 
 -- each name of a call with the call's number and kinds
 unfoldable pub shapes : List (List ℕ × (ℕ × List ArgKind))

@@ -1,8 +1,7 @@
 //! The calls, as values. What a call does is told by the driver, and not here.
 
-ghost use Rattle.std.specs.Prelude.{◌≡◌, ◌<◌, ◌≤◌, ℕ, pos, List, [], ◌∷◌, length, IfSome, slice_get, Some};
+ghost use Rattle.std.specs.Prelude.{◌≡◌, ◌<◌, ◌≤◌, length, slice_get, Some};
 ghost use Rattle.gl_words.specs.Call.{name_of, id_of, arguments, IsInRange};
-ghost use Rattle.gl_words.specs.CallOf.{call_of, argument_count, unsigned_of, signed_of, clear_of, clear_color_of, bare_of};
 
 /// A call with its arguments, spelled as in OpenGL ES 1.1.12 without the prefix `gl`.
 #[derive(Clone, Copy, Debug, PartialEq, Eq)]
@@ -22,8 +21,62 @@ pub enum Call {
     Finish,
     /// Sends all calls on their way (section 5.1).
     Flush,
+    /// Multiplies the current matrix by a perspective projection, 16.16 fixed (section 2.10.2).
+    Frustumx {
+        left: i32,
+        right: i32,
+        bottom: i32,
+        top: i32,
+        near: i32,
+        far: i32,
+    },
     /// Asks for the recorded error, which is forgotten (section 2.5).
     GetError,
+    /// Sets the current matrix to the identity (section 2.10.2).
+    LoadIdentity,
+    /// Sets which stack of matrices is current: MODELVIEW, PROJECTION or TEXTURE (section 2.10.2).
+    MatrixMode {
+        mode: u32,
+    },
+    /// Multiplies the current matrix by a parallel projection, 16.16 fixed (section 2.10.2).
+    Orthox {
+        left: i32,
+        right: i32,
+        bottom: i32,
+        top: i32,
+        near: i32,
+        far: i32,
+    },
+    /// Takes the top matrix off the current stack (section 2.10.2).
+    PopMatrix,
+    /// Puts a copy of the current matrix on the current stack (section 2.10.2).
+    PushMatrix,
+    /// Multiplies the current matrix by a rotation, in degrees round an axis, 16.16 fixed (section 2.10.2).
+    Rotatex {
+        angle: i32,
+        x: i32,
+        y: i32,
+        z: i32,
+    },
+    /// Multiplies the current matrix by a scaling, 16.16 fixed (section 2.10.2).
+    Scalex {
+        x: i32,
+        y: i32,
+        z: i32,
+    },
+    /// Multiplies the current matrix by a translation, 16.16 fixed (section 2.10.2).
+    Translatex {
+        x: i32,
+        y: i32,
+        z: i32,
+    },
+    /// Sets the rectangle of the window that is drawn to, in pixels (section 2.10.1).
+    Viewport {
+        x: i32,
+        y: i32,
+        width: i32,
+        height: i32,
+    },
 }
 
 /// The number of a call in the table of calls; own.
@@ -36,7 +89,17 @@ pub fn call_id(call: &Call) -> u16
         Call::ClearColorx { .. } => 9,
         Call::Finish => 27,
         Call::Flush => 28,
+        Call::Frustumx { .. } => 30,
         Call::GetError => 33,
+        Call::LoadIdentity => 40,
+        Call::MatrixMode { .. } => 42,
+        Call::Orthox { .. } => 47,
+        Call::PopMatrix => 49,
+        Call::PushMatrix => 50,
+        Call::Rotatex { .. } => 52,
+        Call::Scalex { .. } => 53,
+        Call::Translatex { .. } => 62,
+        Call::Viewport { .. } => 64,
     }
 }
 
@@ -50,7 +113,17 @@ pub fn call_name(call: &Call) -> &'static str
         Call::ClearColorx { .. } => "ClearColorx",
         Call::Finish => "Finish",
         Call::Flush => "Flush",
+        Call::Frustumx { .. } => "Frustumx",
         Call::GetError => "GetError",
+        Call::LoadIdentity => "LoadIdentity",
+        Call::MatrixMode { .. } => "MatrixMode",
+        Call::Orthox { .. } => "Orthox",
+        Call::PopMatrix => "PopMatrix",
+        Call::PushMatrix => "PushMatrix",
+        Call::Rotatex { .. } => "Rotatex",
+        Call::Scalex { .. } => "Scalex",
+        Call::Translatex { .. } => "Translatex",
+        Call::Viewport { .. } => "Viewport",
     }
 }
 
@@ -62,31 +135,16 @@ pub fn arg_count(call: &Call) -> usize
 {
     match call {
         Call::Clear { .. } => 1,
-        Call::ClearColorx { .. } => 4,
-        Call::Finish | Call::Flush | Call::GetError => 0,
-    }
-}
-
-/// How many arguments the call with this number has: 0 to 9. None exactly where no call has the number.
-#[tactic(auto, using(crate::proofs::Rows::counts))]
-pub fn arg_count_of(id: u16) -> Option<usize>
-    ensures gives { result ≡ argument_count id }
-    ensures found { IfSome result
-        (λ count. (call : Call) × (id_of call ≡ id) × (length (arguments call) ≡ count)) }
-    ensures only { (call : Call) → id_of call ≡ id → result ≡ Some (length (arguments call)) }
-{
-    count_from(id)
-}
-
-#[tactic(auto, unfolding(crate::specs::CallOf::argument_count))]
-fn count_from(id: u16) -> Option<usize>
-    ensures { result ≡ argument_count id }
-{
-    match id {
-        8 => Some(1),
-        9 => Some(4),
-        27 | 28 | 33 => Some(0),
-        _ => None,
+        Call::ClearColorx { .. } | Call::Rotatex { .. } | Call::Viewport { .. } => 4,
+        Call::Frustumx { .. } | Call::Orthox { .. } => 6,
+        Call::MatrixMode { .. } => 1,
+        Call::Scalex { .. } | Call::Translatex { .. } => 3,
+        Call::Finish
+        | Call::Flush
+        | Call::GetError
+        | Call::LoadIdentity
+        | Call::PopMatrix
+        | Call::PushMatrix => 0,
     }
 }
 
@@ -107,9 +165,52 @@ pub fn in_range(call: &Call)
         } => {
             let _colour = [*red, *green, *blue, *alpha];
         }
+        Call::Frustumx {
+            left,
+            right,
+            bottom,
+            top,
+            near,
+            far,
+        } => {
+            let _numbers = [*left, *right, *bottom, *top, *near, *far];
+        }
+        Call::MatrixMode { mode } => {
+            let _mode = *mode;
+        }
+        Call::Orthox {
+            left,
+            right,
+            bottom,
+            top,
+            near,
+            far,
+        } => {
+            let _numbers = [*left, *right, *bottom, *top, *near, *far];
+        }
+        Call::Rotatex { angle, x, y, z } => {
+            let _numbers = [*angle, *x, *y, *z];
+        }
+        Call::Scalex { x, y, z } => {
+            let _numbers = [*x, *y, *z];
+        }
+        Call::Translatex { x, y, z } => {
+            let _numbers = [*x, *y, *z];
+        }
+        Call::Viewport {
+            x,
+            y,
+            width,
+            height,
+        } => {
+            let _numbers = [*x, *y, *width, *height];
+        }
         Call::Finish => {}
         Call::Flush => {}
         Call::GetError => {}
+        Call::LoadIdentity => {}
+        Call::PopMatrix => {}
+        Call::PushMatrix => {}
     }
 }
 
@@ -126,102 +227,45 @@ pub fn arg_at(call: &Call, at: usize) -> i64
             green,
             blue,
             alpha,
-        } => one_of(*red, *green, *blue, *alpha, at),
-        Call::Finish | Call::Flush | Call::GetError => unreachable!(),
+        } => one_of(&[*red, *green, *blue, *alpha], at),
+        Call::Frustumx {
+            left,
+            right,
+            bottom,
+            top,
+            near,
+            far,
+        } => one_of(&[*left, *right, *bottom, *top, *near, *far], at),
+        Call::MatrixMode { mode } => i64::from(*mode),
+        Call::Orthox {
+            left,
+            right,
+            bottom,
+            top,
+            near,
+            far,
+        } => one_of(&[*left, *right, *bottom, *top, *near, *far], at),
+        Call::Rotatex { angle, x, y, z } => one_of(&[*angle, *x, *y, *z], at),
+        Call::Scalex { x, y, z } => one_of(&[*x, *y, *z], at),
+        Call::Translatex { x, y, z } => one_of(&[*x, *y, *z], at),
+        Call::Viewport {
+            x,
+            y,
+            width,
+            height,
+        } => one_of(&[*x, *y, *width, *height], at),
+        Call::Finish
+        | Call::Flush
+        | Call::GetError
+        | Call::LoadIdentity
+        | Call::PopMatrix
+        | Call::PushMatrix => unreachable!(),
     }
 }
 
-fn one_of(first: i32, second: i32, third: i32, fourth: i32, at: usize) -> i64
-    requires { at < 4 }
-    ensures { slice_get (first ∷ second ∷ third ∷ fourth ∷ []) at ≡ Some result }
+fn one_of(numbers: &[i32], at: usize) -> i64
+    requires { at < length numbers.now }
+    ensures { slice_get numbers.now at ≡ Some result }
 {
-    if at == 0 {
-        i64::from(first)
-    } else if at == 1 {
-        i64::from(second)
-    } else if at == 2 {
-        i64::from(third)
-    } else {
-        i64::from(fourth)
-    }
-}
-
-/// The call with this number and these arguments. None exactly where no call has the number, the
-/// number of arguments differs, or one is outside the range of its kind.
-#[tactic(auto, using(crate::proofs::Rows::rows))]
-pub fn call_from(id: u16, args: &[i64]) -> Option<Call>
-    ensures gives { result ≡ call_of id args.now }
-    ensures found { IfSome result
-        (λ call. (id_of call ≡ id) × (arguments call ≡ args.now) × IsInRange call) }
-    ensures only { (call : Call) → IsInRange call → id_of call ≡ id → arguments call ≡ args.now
-        → result ≡ Some call }
-{
-    row_from(id, args)
-}
-
-#[tactic(auto, unfolding(crate::specs::CallOf::call_of))]
-fn row_from(id: u16, args: &[i64]) -> Option<Call>
-    ensures { result ≡ call_of id args.now }
-{
-    match id {
-        8 => clear_from(args),
-        9 => clear_color_from(args),
-        27 => bare_from(Call::Finish, args),
-        28 => bare_from(Call::Flush, args),
-        33 => bare_from(Call::GetError, args),
-        _ => None,
-    }
-}
-
-fn unsigned_from(value: i64) -> Option<u32>
-    ensures { result ≡ unsigned_of value }
-{
-    u32::try_from(value).ok()
-}
-
-fn signed_from(value: i64) -> Option<i32>
-    ensures { result ≡ signed_of value }
-{
-    i32::try_from(value).ok()
-}
-
-fn clear_from(args: &[i64]) -> Option<Call>
-    ensures { result ≡ clear_of args.now }
-{
-    match args {
-        [mask] => Some(Call::Clear {
-            mask: unsigned_from(*mask)?,
-        }),
-        _ => None,
-    }
-}
-
-fn clear_color_from(args: &[i64]) -> Option<Call>
-    ensures { result ≡ clear_color_of args.now }
-{
-    match args {
-        [red, green, blue, alpha] => colour_from(*red, *green, *blue, *alpha),
-        _ => None,
-    }
-}
-
-fn colour_from(red: i64, green: i64, blue: i64, alpha: i64) -> Option<Call>
-    ensures { result ≡ clear_color_of (red ∷ green ∷ blue ∷ alpha ∷ []) }
-{
-    let red = signed_from(red)?;
-    let green = signed_from(green)?;
-    let blue = signed_from(blue)?;
-    let alpha = signed_from(alpha)?;
-    Some(Call::ClearColorx {
-        red,
-        green,
-        blue,
-        alpha,
-    })
-}
-
-fn bare_from(call: Call, args: &[i64]) -> Option<Call>
-    ensures { result ≡ bare_of call args.now }
-{
-    if args.is_empty() { Some(call) } else { None }
+    i64::from(numbers[at])
 }

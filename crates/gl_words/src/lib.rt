@@ -6,11 +6,13 @@ mod error;
 mod laws;
 mod names;
 mod shape;
+mod table;
 #[cfg(test)]
 mod tests;
 
-pub use call::{Call, arg_at, arg_count, arg_count_of, call_from, call_id, call_name, in_range};
+pub use call::{Call, arg_at, arg_count, call_id, call_name, in_range};
 pub use error::GlError;
 pub use laws::call_law;
 pub use names::number_of_enum;
 pub use shape::{ArgKind, Shape, shape_of_name};
+pub use table::{arg_count_of, call_from};

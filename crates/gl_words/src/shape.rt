@@ -37,7 +37,7 @@ pub(crate) struct NamedShape {
     shape: Shape,
 }
 
-static SHAPES: [NamedShape; 5] = [
+static SHAPES: [NamedShape; 15] = [
     NamedShape {
         name: "Clear",
         shape: Shape {
@@ -66,8 +66,88 @@ static SHAPES: [NamedShape; 5] = [
         shape: Shape { id: 28, kinds: &[] },
     },
     NamedShape {
+        name: "Frustumx",
+        shape: Shape {
+            id: 30,
+            kinds: &[
+                ArgKind::Fixed,
+                ArgKind::Fixed,
+                ArgKind::Fixed,
+                ArgKind::Fixed,
+                ArgKind::Fixed,
+                ArgKind::Fixed,
+            ],
+        },
+    },
+    NamedShape {
         name: "GetError",
         shape: Shape { id: 33, kinds: &[] },
+    },
+    NamedShape {
+        name: "LoadIdentity",
+        shape: Shape { id: 40, kinds: &[] },
+    },
+    NamedShape {
+        name: "MatrixMode",
+        shape: Shape {
+            id: 42,
+            kinds: &[ArgKind::Enum],
+        },
+    },
+    NamedShape {
+        name: "Orthox",
+        shape: Shape {
+            id: 47,
+            kinds: &[
+                ArgKind::Fixed,
+                ArgKind::Fixed,
+                ArgKind::Fixed,
+                ArgKind::Fixed,
+                ArgKind::Fixed,
+                ArgKind::Fixed,
+            ],
+        },
+    },
+    NamedShape {
+        name: "PopMatrix",
+        shape: Shape { id: 49, kinds: &[] },
+    },
+    NamedShape {
+        name: "PushMatrix",
+        shape: Shape { id: 50, kinds: &[] },
+    },
+    NamedShape {
+        name: "Rotatex",
+        shape: Shape {
+            id: 52,
+            kinds: &[
+                ArgKind::Fixed,
+                ArgKind::Fixed,
+                ArgKind::Fixed,
+                ArgKind::Fixed,
+            ],
+        },
+    },
+    NamedShape {
+        name: "Scalex",
+        shape: Shape {
+            id: 53,
+            kinds: &[ArgKind::Fixed, ArgKind::Fixed, ArgKind::Fixed],
+        },
+    },
+    NamedShape {
+        name: "Translatex",
+        shape: Shape {
+            id: 62,
+            kinds: &[ArgKind::Fixed, ArgKind::Fixed, ArgKind::Fixed],
+        },
+    },
+    NamedShape {
+        name: "Viewport",
+        shape: Shape {
+            id: 64,
+            kinds: &[ArgKind::Int, ArgKind::Int, ArgKind::Int, ArgKind::Int],
+        },
     },
 ];
 

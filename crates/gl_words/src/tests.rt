@@ -22,6 +22,68 @@ fn each_call_is_found_by_its_name_and_its_number(rt: HostRuntime) {
         (Call::Finish, "Finish", [].as_slice()),
         (Call::Flush, "Flush", [].as_slice()),
         (Call::GetError, "GetError", [].as_slice()),
+        (Call::LoadIdentity, "LoadIdentity", [].as_slice()),
+        (Call::PopMatrix, "PopMatrix", [].as_slice()),
+        (Call::PushMatrix, "PushMatrix", [].as_slice()),
+        (
+            Call::MatrixMode { mode: 0x1701 },
+            "MatrixMode",
+            [0x1701].as_slice(),
+        ),
+        (
+            Call::Frustumx {
+                left: 1,
+                right: 2,
+                bottom: 3,
+                top: 4,
+                near: 5,
+                far: 6,
+            },
+            "Frustumx",
+            [1, 2, 3, 4, 5, 6].as_slice(),
+        ),
+        (
+            Call::Orthox {
+                left: -1,
+                right: -2,
+                bottom: -3,
+                top: -4,
+                near: -5,
+                far: -6,
+            },
+            "Orthox",
+            [-1, -2, -3, -4, -5, -6].as_slice(),
+        ),
+        (
+            Call::Rotatex {
+                angle: 1,
+                x: 2,
+                y: 3,
+                z: 4,
+            },
+            "Rotatex",
+            [1, 2, 3, 4].as_slice(),
+        ),
+        (
+            Call::Scalex { x: 1, y: 2, z: 3 },
+            "Scalex",
+            [1, 2, 3].as_slice(),
+        ),
+        (
+            Call::Translatex { x: 1, y: 2, z: 3 },
+            "Translatex",
+            [1, 2, 3].as_slice(),
+        ),
+        (
+            Call::Viewport {
+                x: -1,
+                y: -2,
+                width: 3,
+                height: 4,
+            },
+            "Viewport",
+            [-1, -2, 3, 4].as_slice(),
+        ),
     ];
     for (call, name, numbers) in &calls {
         assert_eq!(rt; call_name(call), *name);
