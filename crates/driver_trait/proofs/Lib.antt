@@ -1,2 +1,4 @@
+pub mod Faults
 pub mod Stepping
 pub mod Recordings
+pub mod Stacks

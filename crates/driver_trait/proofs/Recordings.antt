@@ -1,20 +1,12 @@
 -- What the test driver becomes by the calls built so far: it keeps each of them.
-use Rattle.std.proofs.Common.{◌≡◌, refl, sym, ap, ◌∙◌, ℤ, List, [], ◌∷◌, ◌++◌, Option, None}
+use Rattle.std.proofs.Common.{◌≡◌, sym, ap, ◌∙◌, ℤ, List, [], ◌∷◌, ◌++◌, Option}
 use Rattle.gl_words.specs.declared.call.Call.{Call}
-use Rattle.gl_words.specs.declared.call.Call.TheVariants.{Clear, ClearColorx, Finish, Flush, GetError}
 use Rattle.gl_memory.specs.Segment.{Segment}
 use Rattle.driver_trait.specs.declared.tracked.Tracked.{Tracked}
+use Rattle.driver_trait.specs.Recording.{number_asked-none}
 use Rattle.driver_trait.specs.Reply.{Nothing}
-use Rattle.driver_trait.specs.Step.{tracked_after, number_asked}
+use Rattle.driver_trait.specs.Step.{tracked_after}
 use Rattle.driver_trait.specs.Recorder.{Recorded, recorded_unless, recorded_after, number_replied, recorder_reply}
-
-number_asked-none : (tracked : Tracked) (call : Call) → number_asked tracked call ≡ None
-unfolding number_asked
-number_asked-none tracked (Clear mask) = refl
-number_asked-none tracked (ClearColorx red green blue alpha) = refl
-number_asked-none tracked Finish = refl
-number_asked-none tracked Flush = refl
-number_asked-none tracked GetError = refl
 
 pub recorder_reply-none : (st : Recorded) (call : Call) → Nothing ≡ recorder_reply st call
 unfolding recorder_reply

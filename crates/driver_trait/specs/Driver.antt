@@ -1,5 +1,5 @@
 -- What a driver is: states with a tracked part, a relation that says what a call may do to them, and laws of the relation; own.
-use Rattle.std.specs.Prelude.{◌≡◌, ℕ, ◌<◌, ℤ, ◌↔◌, false, List, [], ◌∷◌, All, Some}
+use Rattle.std.specs.Prelude.{◌≡◌, ℤ, ◌↔◌, false, List, [], ◌∷◌, Some}
 use Rattle.gl_words.specs.Call.{IsInRange, is_answering}
 use Rattle.gl_words.specs.declared.call.Call.{Call}
 use Rattle.gl_memory.specs.Segment.{Segment, AreBytes}

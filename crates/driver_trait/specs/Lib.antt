@@ -1,4 +1,5 @@
 pub mod Tracked
+pub mod Stack
 pub mod Fault
 pub mod Step
 pub mod Room

@@ -1,6 +1,5 @@
 -- What the test driver is: it keeps the calls that it met, and answers from tracked state alone; own.
-use Rattle.std.specs.Prelude.{◌≡◌, ℤ, ◌⊎◌, true, false, List, [], ◌∷◌, ◌++◌, Option, Some, None}
-use Rattle.gl_words.specs.Call.{is_answering}
+use Rattle.std.specs.Prelude.{◌≡◌, ℤ, List, [], ◌∷◌, ◌++◌, Option, Some, None}
 use Rattle.gl_words.specs.declared.call.Call.{Call}
 use Rattle.gl_memory.specs.Segment.{Segment}
 use Rattle.driver_trait.specs.declared.tracked.Tracked.{Tracked}
@@ -21,7 +20,7 @@ recorded_unless None st call memory = record { tracked = tracked_after st.tracke
 unfoldable pub recorded_after : Recorded → Call → List Segment → Recorded
 recorded_after st call memory = recorded_unless (number_asked st.tracked call) st call memory
 
--- a number as a reply, where there is one
+-- a number as a reply, where there is one; own
 abbrev pub number_replied : Option ℤ → Replied
 number_replied (Some number) = Numbers (number ∷ [])
 number_replied None = Nothing

@@ -1,5 +1,5 @@
 -- The part of a context's state that the layer keeps as well: which arrays there are, which units, modes, depths, bindings and alignments are set. The values are those of OpenGL ES 1.1.12; which of them stand here is own.
-use Rattle.std.specs.Prelude.{◌≡◌, ℕ, ◌≤◌, ℤ, pos, ◌≤ℤ◌, false, List, [], ◌∷◌, Contains}
+use Rattle.std.specs.Prelude.{ℕ, ◌≤◌, ℤ, pos, ◌≤ℤ◌, false, List, [], ◌∷◌, Contains}
 use Rattle.driver_trait.specs.declared.tracked.ArrayState.{ArrayState}
 use Rattle.driver_trait.specs.declared.tracked.Tracked.{Tracked}
 
@@ -51,7 +51,7 @@ pub record IsArray (array : ArrayState) : Type 0 where
   pub typed : Contains array_types array.kind
   pub forward : pos 0 ≤ℤ array.stride
 
--- a stack holds a matrix at least, and no more than it may
+-- a stack holds a matrix at least, and no more than it may; section 2.10.2
 pub record IsDepth (most depth : ℕ) : Type 0 where
   pub some : 1 ≤ depth
   pub few : depth ≤ most
@@ -63,7 +63,7 @@ AreDepths [] (depth ∷ depths) = ⊥
 AreDepths (most ∷ mosts) [] = ⊥
 AreDepths (most ∷ mosts) (depth ∷ depths) = IsDepth most depth × AreDepths mosts depths
 
--- two arrays, each of which is one
+-- two arrays, each of which is one; section 2.8
 abbrev pub AreTwoArrays : List ArrayState → Type 0
 AreTwoArrays (one ∷ other ∷ []) = IsArray one × IsArray other
 AreTwoArrays _ = ⊥

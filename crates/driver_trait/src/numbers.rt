@@ -35,6 +35,16 @@ impl Numbers {
         })
     }
 
+    /// No numbers, with room for none. It takes no memory.
+    pub fn none(alloc: Global) -> Numbers
+        ensures { result ≡ record { items = []; room = 0 } }
+    {
+        Numbers {
+            items: Vec::new(alloc),
+            room: 0,
+        }
+    }
+
     /// Adds a number at the end. It takes no memory.
     pub fn push(&mut self, value: i64)
         requires room { length self.old.items < self.old.room }

@@ -1,9 +1,10 @@
 //! The part of a context's state that the layer keeps as well.
 
-ghost use Rattle.std.specs.Prelude.{◌≡◌};
+ghost use Rattle.std.specs.Prelude.{◌≡◌, ◌<◌, ◌≤◌, List, None};
 ghost use Rattle.gl_memory.specs.Segment.{Segment};
-ghost use Rattle.driver_trait.specs.Fault.{fault_of, is_known_mask};
-ghost use Rattle.driver_trait.specs.Step.{tracked_after};
+ghost use Rattle.driver_trait.specs.Fault.{fault_of, is_known_mask, differ, is_box, is_frustum, is_extent};
+ghost use Rattle.driver_trait.specs.Stack.{current_stack, current_depth, current_most, with_depth, is_matrix_mode};
+ghost use Rattle.driver_trait.specs.Step.{set_by, tracked_after};
 ghost use Rattle.driver_trait.specs.Tracked.{first_array, first_tracked, IsSound};
 
 use gl_memory::Memory;
@@ -24,6 +25,10 @@ pub struct ArrayState {
     /// The buffer in which it stands, or 0 for client memory (section 2.9).
     pub buffer: u32,
 }
+
+/// The most matrices of the model-view stack, the projection stack and the texture stacks of units 0 and 1; own, of at
+/// least 16, 2 and 2 (section 2.10.2).
+const MOST_DEPTHS: [u32; 4] = [16, 2, 2, 2];
 
 /// The tracked state of a context; its choice is own.
 #[derive(Clone, Copy, Debug, PartialEq, Eq)]
@@ -89,6 +94,30 @@ impl Tracked {
     {
         match call {
             Call::Clear { mask } if !is_known_mask(*mask) => Some(GlError::InvalidValue),
+            Call::Frustumx {
+                left,
+                right,
+                bottom,
+                top,
+                near,
+                far,
+            } if !is_frustum(*left, *right, *bottom, *top, *near, *far) => Some(
+                GlError::InvalidValue,
+            ),
+            Call::MatrixMode { mode } if !is_matrix_mode(*mode) => Some(GlError::InvalidEnum),
+            Call::Orthox {
+                left,
+                right,
+                bottom,
+                top,
+                near,
+                far,
+            } if !is_box(*left, *right, *bottom, *top, *near, *far) => Some(GlError::InvalidValue),
+            Call::PopMatrix if self.depth() <= 1 => Some(GlError::StackUnderflow),
+            Call::PushMatrix if self.depth() >= self.most_depth() => Some(GlError::StackOverflow),
+            Call::Viewport { width, height, .. } if !is_extent(*width, *height) => Some(
+                GlError::InvalidValue,
+            ),
             _ => None,
         }
     }
@@ -97,7 +126,69 @@ impl Tracked {
     pub fn note<M: Memory>(&mut self, call: &Call, memory: &M)
         ensures step { self.new ≡ tracked_after self.old call.now (M.segments memory.now) }
         ensures sound { IsSound self.old → IsSound self.new }
-    {}
+    {
+        match self.fault(call) {
+            Some(_) => {}
+            None => self.set(call),
+        }
+    }
+
+    /// Sets what a call without an error sets.
+    #[tactic(auto, unfolding(crate::specs::Step::set_by))]
+    fn set(&mut self, call: &Call)
+        requires no_fault { fault_of self.old call.now ≡ None }
+        ensures { (memory : List Segment) → self.new ≡ set_by self.old call.now memory }
+    {
+        match call {
+            Call::MatrixMode { mode } => self.matrix_mode = *mode,
+            Call::PopMatrix => self.set_depth(self.depth() - 1),
+            Call::PushMatrix => self.set_depth(self.depth() + 1),
+            _ => {}
+        }
+    }
+
+    /// The current stack, as its place among the depths (section 2.10.2).
+    #[tactic(auto, unfolding(crate::specs::Stack::current_stack))]
+    fn stack(&self) -> usize
+        ensures stack { result ≡ current_stack self.now }
+        ensures few { result < 4 }
+    {
+        if self.matrix_mode == 0x1700 {
+            0
+        } else if self.matrix_mode == 0x1701 {
+            1
+        } else if self.active == 0x84C0 {
+            2
+        } else {
+            3
+        }
+    }
+
+    /// How many matrices there are on the current stack.
+    #[tactic(auto, unfolding(crate::specs::Stack::current_depth))]
+    fn depth(&self) -> u32
+        ensures { result ≡ current_depth self.now }
+    {
+        self.depths[self.stack()]
+    }
+
+    /// How many matrices the current stack may hold.
+    #[tactic(auto, unfolding(crate::specs::Stack::current_most))]
+    fn most_depth(&self) -> u32
+        ensures most { result ≡ current_most self.now }
+        ensures few { result ≤ 16 }
+    {
+        MOST_DEPTHS[self.stack()]
+    }
+
+    /// Sets how many matrices there are on the current stack.
+    #[tactic(auto, unfolding(crate::specs::Stack::with_depth))]
+    fn set_depth(&mut self, depth: u32)
+        ensures { self.new ≡ with_depth self.old depth }
+    {
+        let stack = self.stack();
+        self.depths[stack] = depth;
+    }
 }
 
 /// Whether a mask has no bits but those of depth, stencil and colour (section 4.2.3).
@@ -106,4 +197,44 @@ pub fn is_known_mask(mask: u32) -> bool
     ensures { result ≡ is_known_mask mask }
 {
     mask & 0x4500 == mask
+}
+
+/// Whether a number is MODELVIEW, PROJECTION or TEXTURE (section 2.10.2).
+#[tactic(auto, unfolding(crate::specs::Stack::is_matrix_mode))]
+fn is_matrix_mode(mode: u32) -> bool
+    ensures { result ≡ is_matrix_mode mode }
+{
+    matches!(mode, 0x1700 | 0x1701 | 0x1702)
+}
+
+/// Whether two numbers are not the same.
+#[tactic(auto, unfolding(crate::specs::Fault::differ))]
+fn differ(a: i32, b: i32) -> bool
+    ensures { result ≡ differ a b }
+{
+    a != b
+}
+
+/// Whether no two sides of a box that face each other are in one plane (section 2.10.2).
+#[tactic(auto, unfolding(crate::specs::Fault::is_box))]
+fn is_box(left: i32, right: i32, bottom: i32, top: i32, near: i32, far: i32) -> bool
+    ensures { result ≡ is_box left right bottom top near far }
+{
+    differ(left, right) && differ(bottom, top) && differ(near, far)
+}
+
+/// Whether both planes of a frustum are before the eye, and its sides are those of a box (section 2.10.2).
+#[tactic(auto, unfolding(crate::specs::Fault::is_frustum))]
+fn is_frustum(left: i32, right: i32, bottom: i32, top: i32, near: i32, far: i32) -> bool
+    ensures { result ≡ is_frustum left right bottom top near far }
+{
+    0 < near && 0 < far && is_box(left, right, bottom, top, near, far)
+}
+
+/// Whether neither side of a viewport is below zero (section 2.10.1).
+#[tactic(auto, unfolding(crate::specs::Fault::is_extent))]
+fn is_extent(width: i32, height: i32) -> bool
+    ensures { result ≡ is_extent width height }
+{
+    0 <= width && 0 <= height
 }

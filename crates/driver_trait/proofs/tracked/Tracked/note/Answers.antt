@@ -1,5 +1,16 @@
-use Rattle.driver_trait.proofs.Stepping.{tracked_after-same}
+use Rattle.std.proofs.Common.{sym, ◌∙◌}
+use Rattle.driver_trait.proofs.Stepping.{tracked_after-fault, tracked_after-no_fault}
+use Rattle.driver_trait.proofs.Stacks.{set-sound}
 use Rattle.driver_trait.proofs.tracked.Tracked.note.Goals as goal
 
-pub returns-clause-step : goal.returns-clause-step
-returns-clause-step g c = tracked_after-same c.args.self.now c.args.call.now (g.M.Memory.segments c.args.memory.now)
+pub returns-in-None-clause-step : goal.returns-in-None-clause-step
+returns-in-None-clause-step g c =
+    c.set.ensures (g.M.Memory.segments c.args.memory.now)
+    ∙ sym (tracked_after-no_fault c.args.self.now c.args.call.now (g.M.Memory.segments c.args.memory.now) (sym c.fault.ensures ∙ c.in-None.is))
+
+pub returns-in-None-clause-sound : goal.returns-in-None-clause-sound
+returns-in-None-clause-sound g c = set-sound c.args.self.now c.set.new.self c.args.call.now (sym c.fault.ensures ∙ c.in-None.is) c.set.ensures
+
+pub returns-in-Some-clause-step : goal.returns-in-Some-clause-step
+returns-in-Some-clause-step g c =
+    sym (tracked_after-fault c.args.self.now c.args.call.now (g.M.Memory.segments c.args.memory.now) _ (sym c.fault.ensures ∙ c.in-Some.is))
