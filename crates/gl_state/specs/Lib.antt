@@ -1,0 +1,6 @@
+pub mod Settings
+pub mod Stacks
+pub mod Private
+pub mod Step
+pub use Rattle.fixed_transform.specs.Matrix
+pub use Rattle.driver_trait.specs.Tracked

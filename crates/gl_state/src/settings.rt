@@ -1,0 +1,199 @@
+//! What calls set besides stacks, tracked state and errors: current values, capabilities, masks and the rest.
+
+ghost use Rattle.std.specs.Prelude.{◌≡◌, ◌≤ℤ◌, pos, [], ◌∷◌};
+ghost use Rattle.gl_state.specs.Private.{AreSides};
+ghost use Rattle.gl_state.specs.Settings.{clamped_origin, clamped_side, clamped_to_one, clamped_within, first_capabilities, first_settings, one, AreClamped, AreWithinOne};
+ghost use Rattle.gl_state.specs.Step.{settings_set_by};
+
+use gl_words::Call;
+
+/// Which capabilities are enabled (chapters 2 to 4).
+#[derive(Clone, Copy, Debug, PartialEq, Eq)]
+pub struct Capabilities {
+    /// Of unit 0 and of unit 1 (section 3.7.12).
+    pub texture_2d: [bool; 2],
+    pub cull_face: bool,
+    pub alpha_test: bool,
+    pub blend: bool,
+    pub dither: bool,
+    pub depth_test: bool,
+    pub scissor_test: bool,
+}
+
+impl Capabilities {
+    /// Those of a context at the start: all are disabled but dithering (chapters 2 to 4).
+    fn new() -> Capabilities
+        ensures { result ≡ first_capabilities }
+    {
+        Capabilities {
+            texture_2d: [false, false],
+            cull_face: false,
+            alpha_test: false,
+            blend: false,
+            dither: true,
+            depth_test: false,
+            scissor_test: false,
+        }
+    }
+}
+
+/// The settings of a context; the choice of what stands here is own.
+#[derive(Clone, Copy, Debug, PartialEq, Eq)]
+pub struct Settings {
+    /// Red, green, blue and alpha, 16.16 fixed (section 2.7).
+    pub colour: [i32; 4],
+    /// 16.16 fixed (section 2.7).
+    pub normal: [i32; 3],
+    /// s, t, r and q of unit 0 and of unit 1, 16.16 fixed (section 2.7).
+    pub coordinates: [[i32; 4]; 2],
+    pub capabilities: Capabilities,
+    /// x, y, width and height, in pixels (section 2.10.1).
+    pub viewport: [i32; 4],
+    /// x, y, width and height, in pixels (section 4.1.2).
+    pub scissor: [i32; 4],
+    /// Near and far, 0 to 65536, 16.16 fixed (section 2.10.1).
+    pub depth_range: [i32; 2],
+    /// FLAT or SMOOTH (section 2.12.7).
+    pub shade_model: u32,
+    /// CW or CCW (section 2.12.1).
+    pub front_face: u32,
+    /// FRONT, BACK or FRONT_AND_BACK (section 3.5.1).
+    pub cull_face: u32,
+    /// A comparison, and a reference of 0 to 65536, 16.16 fixed (section 4.1.4).
+    pub alpha_func: u32,
+    pub alpha_reference: i32,
+    /// A comparison (section 4.1.6).
+    pub depth_func: u32,
+    /// Factors (section 4.1.7).
+    pub source_factor: u32,
+    pub dest_factor: u32,
+    /// Red, green, blue and alpha (section 4.2.2).
+    pub colour_mask: [bool; 4],
+    pub depth_mask: bool,
+    /// Red, green, blue and alpha, 0 to 65536, 16.16 fixed (section 4.2.3).
+    pub clear_colour: [i32; 4],
+    /// 0 to 65536, 16.16 fixed (section 4.2.3).
+    pub clear_depth: i32,
+    /// The texture bound to TEXTURE_2D in unit 0 and in unit 1, or 0 for the default one (section 3.7.11).
+    pub bindings: [u32; 2],
+    /// The mode and the colour of the environment of unit 0 and of unit 1, the colour 16.16 fixed (section 3.7.12).
+    pub environment_mode: [u32; 2],
+    pub environment_colour: [[i32; 4]; 2],
+}
+
+impl Settings {
+    /// Those of a context at the start, with a frame of these sides in pixels (tables 6.5 to 6.20).
+    #[tactic(auto, unfolding(crate::specs::Settings::first_settings))]
+    pub(crate) fn new(width: u32, height: u32) -> Settings
+        requires sides { AreSides width height }
+        ensures first { result ≡ first_settings width height }
+        ensures clamped { AreClamped result }
+    {
+        Settings {
+            colour: [65536, 65536, 65536, 65536],
+            normal: [0, 0, 65536],
+            coordinates: [[0, 0, 0, 65536], [0, 0, 0, 65536]],
+            capabilities: Capabilities::new(),
+            viewport: [0, 0, width as i32, height as i32],
+            scissor: [0, 0, width as i32, height as i32],
+            depth_range: [0, 65536],
+            shade_model: 0x1D01,
+            front_face: 0x0901,
+            cull_face: 0x0405,
+            alpha_func: 0x0207,
+            alpha_reference: 0,
+            depth_func: 0x0201,
+            source_factor: 1,
+            dest_factor: 0,
+            colour_mask: [true, true, true, true],
+            depth_mask: true,
+            clear_colour: [0, 0, 0, 0],
+            clear_depth: 65536,
+            bindings: [0, 0],
+            environment_mode: [0x2100, 0x2100],
+            environment_colour: [[0, 0, 0, 0], [0, 0, 0, 0]],
+        }
+    }
+
+    /// Sets what a call without an error sets.
+    #[tactic(auto, unfolding(crate::specs::Step::settings_set_by))]
+    pub(crate) fn set(&mut self, call: &Call)
+        ensures set { self.new ≡ settings_set_by self.old call.now }
+        ensures clamped { AreClamped self.old → AreClamped self.new }
+    {
+        match call {
+            Call::ClearColorx {
+                red,
+                green,
+                blue,
+                alpha,
+            } => {
+                self.clear_colour = clamped_colour(*red, *green, *blue, *alpha);
+            }
+            Call::Viewport {
+                x,
+                y,
+                width,
+                height,
+            } => {
+                self.viewport = [
+                    clamped_origin(*x),
+                    clamped_origin(*y),
+                    clamped_side(*width),
+                    clamped_side(*height),
+                ];
+            }
+            _ => {}
+        }
+    }
+}
+
+/// A number clamped to lie between two others.
+fn clamped_within(low: i32, high: i32, number: i32) -> i32
+    ensures { result ≡ clamped_within low high number }
+{
+    if number < low {
+        low
+    } else if high < number {
+        high
+    } else {
+        number
+    }
+}
+
+/// A 16.16 fixed number clamped to 0 to 1 (section 4.2.3).
+fn clamped_to_one(number: i32) -> i32
+    ensures clamped { result ≡ clamped_to_one number }
+    ensures low { pos 0 ≤ℤ result }
+    ensures high { result ≤ℤ one }
+{
+    clamped_within(0, 65536, number)
+}
+
+/// The place of a viewport, clamped to 1024 pixels from zero (section 2.10.1).
+fn clamped_origin(number: i32) -> i32
+    ensures { result ≡ clamped_origin number }
+{
+    clamped_within(-1024, 1024, number)
+}
+
+/// The side of a viewport, clamped to 512 pixels (section 2.10.1).
+fn clamped_side(number: i32) -> i32
+    ensures { result ≡ clamped_side number }
+{
+    clamped_within(0, 512, number)
+}
+
+/// A colour with its parts clamped to 0 to 1 (section 4.2.3).
+fn clamped_colour(red: i32, green: i32, blue: i32, alpha: i32) -> [i32; 4]
+    ensures colour { result ≡ clamped_to_one red ∷ clamped_to_one green ∷
+        clamped_to_one blue ∷ clamped_to_one alpha ∷ [] }
+    ensures within { AreWithinOne result }
+{
+    [
+        clamped_to_one(red),
+        clamped_to_one(green),
+        clamped_to_one(blue),
+        clamped_to_one(alpha),
+    ]
+}

@@ -1,0 +1,164 @@
+//! The stacks of matrices of a context.
+
+ghost use Rattle.std.specs.Prelude.{◌≡◌, ◌≢◌, ◌∷◌, length, None};
+ghost use Rattle.fixed_transform.specs.Stack.{top_of, below_top};
+ghost use Rattle.driver_trait.specs.Fault.{fault_of};
+ghost use Rattle.gl_state.specs.Stacks.{first_stacks, current_of, with_current, most_of, depths_of};
+ghost use Rattle.gl_state.specs.Step.{stacks_set_by, with_product};
+
+use driver_trait::Tracked;
+use fixed_transform::{Matrix, Stack, frustum, ortho, rotation, scaling, translation};
+use gl_words::Call;
+use std::marker::Model;
+
+/// The stacks (section 2.10.2). Contracts see each as the list of its matrices, the top one first.
+#[derive(Drop)]
+pub(crate) struct Stacks {
+    model_view: Stack<16>,
+    projection: Stack<2>,
+    texture_zero: Stack<2>,
+    texture_one: Stack<2>,
+}
+
+impl Model for Stacks {
+    ghost use Rattle.gl_state.specs.Stacks.{StacksView};
+
+    ghost Value = { StacksView };
+
+    ghost view = { λ s. record {
+      model_view = s.model_view;
+      projection = s.projection;
+      texture_zero = s.texture_zero;
+      texture_one = s.texture_one;
+    } };
+}
+
+impl Stacks {
+    /// Each with the identity.
+    pub(crate) fn new() -> Stacks
+        ensures { result ≡ first_stacks }
+    {
+        Stacks {
+            model_view: Stack::new(),
+            projection: Stack::new(),
+            texture_zero: Stack::new(),
+            texture_one: Stack::new(),
+        }
+    }
+
+    /// The current matrix.
+    pub(crate) fn top(&self, mode: u32, active: u32) -> Matrix
+        ensures { result ≡ top_of (current_of self.now mode active) }
+    {
+        if mode == 0x1700 {
+            *self.model_view.top()
+        } else if mode == 0x1701 {
+            *self.projection.top()
+        } else if active == 0x84C0 {
+            *self.texture_zero.top()
+        } else {
+            *self.texture_one.top()
+        }
+    }
+
+    /// Puts a matrix in place of the current one.
+    pub(crate) fn set_top(&mut self, mode: u32, active: u32, matrix: Matrix)
+        ensures { self.new ≡ with_current self.old mode active
+            (matrix ∷ below_top (current_of self.old mode active)) }
+    {
+        if mode == 0x1700 {
+            self.model_view.set_top(matrix);
+        } else if mode == 0x1701 {
+            self.projection.set_top(matrix);
+        } else if active == 0x84C0 {
+            self.texture_zero.set_top(matrix);
+        } else {
+            self.texture_one.set_top(matrix);
+        }
+    }
+
+    /// Puts a copy of the current matrix on its stack.
+    pub(crate) fn push(&mut self, mode: u32, active: u32)
+        requires room { length (current_of self.old mode active) ≢ most_of mode }
+        ensures { self.new ≡ with_current self.old mode active
+            (top_of (current_of self.old mode active) ∷ current_of self.old mode active) }
+    {
+        let _pushed = if mode == 0x1700 {
+            self.model_view.push()
+        } else if mode == 0x1701 {
+            self.projection.push()
+        } else if active == 0x84C0 {
+            self.texture_zero.push()
+        } else {
+            self.texture_one.push()
+        };
+    }
+
+    /// Takes the current matrix off its stack.
+    pub(crate) fn pop(&mut self, mode: u32, active: u32)
+        requires some { length (current_of self.old mode active) ≢ 1 }
+        ensures { self.new ≡ with_current self.old mode active
+            (below_top (current_of self.old mode active)) }
+    {
+        let _popped = if mode == 0x1700 {
+            self.model_view.pop()
+        } else if mode == 0x1701 {
+            self.projection.pop()
+        } else if active == 0x84C0 {
+            self.texture_zero.pop()
+        } else {
+            self.texture_one.pop()
+        };
+    }
+
+    /// Multiplies the current matrix by another, which stands on the right.
+    fn multiply(&mut self, tracked: &Tracked, right: &Matrix)
+        ensures { self.new ≡ with_product right.now tracked.now self.old }
+    {
+        let current = self.top(tracked.matrix_mode, tracked.active);
+        let product = current.multiply(right);
+        self.set_top(tracked.matrix_mode, tracked.active, product);
+    }
+
+    /// Sets what a call without an error sets, where tracked state knows how deep the stacks are.
+    #[tactic(auto, unfolding(crate::specs::Step::stacks_set_by))]
+    pub(crate) fn set(&mut self, tracked: &Tracked, call: &Call)
+        requires no_fault { fault_of tracked.now call.now ≡ None }
+        requires depths { tracked.now.depths ≡ depths_of self.old }
+        ensures { self.new ≡ stacks_set_by tracked.now self.old call.now }
+    {
+        match call {
+            Call::Frustumx {
+                left,
+                right,
+                bottom,
+                top,
+                near,
+                far,
+            } => {
+                self.multiply(tracked, &frustum(*left, *right, *bottom, *top, *near, *far));
+            }
+            Call::LoadIdentity => {
+                self.set_top(tracked.matrix_mode, tracked.active, Matrix::identity());
+            }
+            Call::Orthox {
+                left,
+                right,
+                bottom,
+                top,
+                near,
+                far,
+            } => {
+                self.multiply(tracked, &ortho(*left, *right, *bottom, *top, *near, *far));
+            }
+            Call::PopMatrix => self.pop(tracked.matrix_mode, tracked.active),
+            Call::PushMatrix => self.push(tracked.matrix_mode, tracked.active),
+            Call::Rotatex { angle, x, y, z } => {
+                self.multiply(tracked, &rotation(*angle, *x, *y, *z));
+            }
+            Call::Scalex { x, y, z } => self.multiply(tracked, &scaling(*x, *y, *z)),
+            Call::Translatex { x, y, z } => self.multiply(tracked, &translation(*x, *y, *z)),
+            _ => {}
+        }
+    }
+}
