@@ -1,4 +1,4 @@
--- How the calls of a context are cut into batches, and how they are counted; own. Needed for the lines of counts alone.
+-- How the calls of a context are cut into batches, and how they are counted; own. Needed for the lines of counts and the journal.
 use Rattle.std.specs.Prelude.{ℕ, ◌+◌, Bool, true, false, if◌then◌else◌, nat_le, List, [], ◌∷◌, ◌++◌, length, count_by}
 use Rattle.batch_pack.specs.declared.class.Class.{Class}
 use Rattle.batch_pack.specs.declared.class.Class.TheVariants.{Answer, Sync, Defer}

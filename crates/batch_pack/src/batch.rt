@@ -2,7 +2,7 @@
 
 ghost use Rattle.std.specs.Prelude.{◌≡◌, ◌<◌, ◌≤◌, ◌↔◌, [], ◌∷◌, ◌++◌, IfOk, IsErr, OnOk, OnErr};
 ghost use Rattle.batch_pack.specs.Batch.{IsBatchSize, captured, empty_batch, slots_used, slots_left};
-ghost use Rattle.batch_pack.specs.Spelling.{slots_of, HaveSpellings};
+ghost use Rattle.batch_pack.specs.Spelling.{slots_of, spellings_of, HaveSpellings};
 
 use crate::fault::Full;
 use crate::reader::{Reader, reader_of};
@@ -88,6 +88,14 @@ impl Batch {
         ensures { self.new ≡ empty_batch self.old.size }
     {
         self.slots.clear();
+    }
+
+    /// The slots that the calls are spelled in, which `parse` reads back.
+    pub fn slots(&self) -> &[u64]
+        ensures slots { result.now ≡ spellings_of self.now.calls }
+        ensures spellings { HaveSpellings self.now.calls }
+    {
+        self.slots.as_slice()
     }
 
     /// A reader of the calls, in order.

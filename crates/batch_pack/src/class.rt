@@ -24,9 +24,19 @@ pub fn call_class(call: &Call) -> Class
     match call {
         Call::Finish => Class::Sync,
         Call::GetError => Class::Sync,
-        Call::Clear { .. } => Class::Defer,
-        Call::ClearColorx { .. } => Class::Defer,
-        Call::Flush => Class::Defer,
+        Call::Clear { .. }
+        | Call::ClearColorx { .. }
+        | Call::Flush
+        | Call::Frustumx { .. }
+        | Call::LoadIdentity
+        | Call::MatrixMode { .. }
+        | Call::Orthox { .. }
+        | Call::PopMatrix
+        | Call::PushMatrix
+        | Call::Rotatex { .. }
+        | Call::Scalex { .. }
+        | Call::Translatex { .. }
+        | Call::Viewport { .. } => Class::Defer,
     }
 }
 
@@ -35,8 +45,5 @@ pub fn call_class(call: &Call) -> Class
 pub fn sends_batch(call: &Call) -> bool
     ensures { result ≡ is_flush call.now }
 {
-    match call {
-        Call::Flush => true,
-        Call::Clear { .. } | Call::ClearColorx { .. } | Call::Finish | Call::GetError => false,
-    }
+    matches!(call, Call::Flush)
 }

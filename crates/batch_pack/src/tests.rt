@@ -13,37 +13,104 @@ const LAST: u64 = 0x3fff_ffff_ffff_ffff;
 
 const CLEAR: Call = Call::Clear { mask: 0x4000 };
 
+// The slots are those of that program.
 #[test]
 fn each_call_of_the_table_reads_back(rt: HostRuntime) -> Result<(), Fail> {
-    let red = Call::ClearColorx {
-        red: 65536,
-        green: -1,
-        blue: i32::MAX,
-        alpha: i32::MIN,
-    };
-    let colour = [
-        0x5_0009,
-        0x1_0000,
-        u64::MAX,
-        0x7fff_ffff,
-        0xffff_ffff_8000_0000,
+    let rows = [
+        (CLEAR, [0x2_0008, 0x4000].as_slice()),
+        (
+            Call::Clear { mask: u32::MAX },
+            [0x2_0008, 0xffff_ffff].as_slice(),
+        ),
+        (
+            Call::ClearColorx {
+                red: 65536,
+                green: -1,
+                blue: i32::MAX,
+                alpha: i32::MIN,
+            },
+            [
+                0x5_0009,
+                0x1_0000,
+                u64::MAX,
+                0x7fff_ffff,
+                0xffff_ffff_8000_0000,
+            ]
+            .as_slice(),
+        ),
+        (Call::Finish, [0x1_001b].as_slice()),
+        (Call::Flush, [0x1_001c].as_slice()),
+        (
+            Call::Frustumx {
+                left: 1,
+                right: 2,
+                bottom: 3,
+                top: 4,
+                near: 5,
+                far: 6,
+            },
+            [0x7_001e, 1, 2, 3, 4, 5, 6].as_slice(),
+        ),
+        (Call::GetError, [0x1_0021].as_slice()),
+        (Call::LoadIdentity, [0x1_0028].as_slice()),
+        (
+            Call::MatrixMode { mode: 0x1701 },
+            [0x2_002a, 0x1701].as_slice(),
+        ),
+        (
+            Call::Orthox {
+                left: -1,
+                right: 65536,
+                bottom: -65536,
+                top: i32::MAX,
+                near: i32::MIN,
+                far: 7,
+            },
+            [
+                0x7_002f,
+                u64::MAX,
+                0x1_0000,
+                0xffff_ffff_ffff_0000,
+                0x7fff_ffff,
+                0xffff_ffff_8000_0000,
+                7,
+            ]
+            .as_slice(),
+        ),
+        (Call::PopMatrix, [0x1_0031].as_slice()),
+        (Call::PushMatrix, [0x1_0032].as_slice()),
+        (
+            Call::Rotatex {
+                angle: 5898240,
+                x: 0,
+                y: -1,
+                z: 65536,
+            },
+            [0x5_0034, 0x5a_0000, 0, u64::MAX, 0x1_0000].as_slice(),
+        ),
+        (
+            Call::Scalex { x: 1, y: -2, z: 3 },
+            [0x4_0035, 1, u64::MAX - 1, 3].as_slice(),
+        ),
+        (
+            Call::Translatex { x: -1, y: 2, z: -3 },
+            [0x4_003e, u64::MAX, 2, u64::MAX - 2].as_slice(),
+        ),
+        (
+            Call::Viewport {
+                x: -1,
+                y: -2,
+                width: 3,
+                height: 4,
+            },
+            [0x5_0040, u64::MAX, u64::MAX - 1, 3, 4].as_slice(),
+        ),
     ];
-    let most = Call::Clear { mask: u32::MAX };
     let memory = ClientMemory::new(rt.alloc(), 0)?;
     let mut batch = Batch::new(rt.alloc(), 16)?;
-    reads_back(&rt, &mut batch, &memory, CLEAR, &[], &[0x2_0008, 0x4000]);
-    reads_back(
-        &rt,
-        &mut batch,
-        &memory,
-        most,
-        &[],
-        &[0x2_0008, 0xffff_ffff],
-    );
-    reads_back(&rt, &mut batch, &memory, red, &[], &colour);
-    reads_back(&rt, &mut batch, &memory, Call::Finish, &[], &[0x1_001b]);
-    reads_back(&rt, &mut batch, &memory, Call::Flush, &[], &[0x1_001c]);
-    reads_back(&rt, &mut batch, &memory, Call::GetError, &[], &[0x1_0021]);
+    for (call, slots) in &rows {
+        reads_back(&rt, &mut batch, &memory, *call, &[], slots);
+    }
     Ok(())
 }
 
@@ -150,6 +217,7 @@ fn reads_back(
     assert_eq!(rt; batch.try_pack(&call, &captured, memory), Ok(()));
     assert_eq!(rt; u64::from(batch.used()), spelling_slots(&call, &captured));
     assert_eq!(rt; batch.used() as usize, slots.len());
+    assert_eq!(rt; batch.slots(), slots);
     gives(rt, Ok(batch.reader()), call, pieces, memory);
     spelling_law(slots, slots);
     for cut in 1..slots.len() {
@@ -381,6 +449,8 @@ fn the_classes_are_those_of_the_table(rt: HostRuntime) {
         (Call::Flush, Class::Defer, true),
         (Call::Finish, Class::Sync, false),
         (Call::GetError, Class::Sync, false),
+        (Call::PushMatrix, Class::Defer, false),
+        (Call::MatrixMode { mode: 0 }, Class::Defer, false),
     ];
     for (call, class, sends) in rows {
         assert_eq!(rt; call_class(&call), class);
