@@ -1,3 +1,5 @@
 pub mod Running
 pub mod Runs
 pub mod Journals
+pub mod Keeping
+pub mod Giving

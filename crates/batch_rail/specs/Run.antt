@@ -1,5 +1,5 @@
 -- Where a driver is led by the calls of a batch, each on the memory that was captured for it; own.
-use Rattle.std.specs.Prelude.{◌≡◌, List, [], ◌∷◌}
+use Rattle.std.specs.Prelude.{◌≡◌, Bool, true, false, List, [], ◌∷◌, ◌++◌, Option, Some}
 use Rattle.batch_pack.specs.Spelling.{Spelled}
 use Rattle.driver_trait.specs.Driver.{Steps}
 use Rattle.driver_trait.specs.Reply.{Replied}
@@ -14,3 +14,16 @@ pub record RunsFrom {S : Type 0} (starts : S → Type 0) (steps : Steps S) (call
   pub start : S
   pub may_start : starts start
   pub run : Run steps start calls st2
+
+-- a state that was reached by the first calls of a batch: the call behind them was refused, and none after it was carried out; own
+pub record StopsInside {S : Type 0} (steps : Steps S) (start : S) (calls : List Spelled) (here : S) : Type 0 where
+  pub done : List Spelled
+  pub refused : Spelled
+  pub left_out : List Spelled
+  pub whole : calls ≡ done ++ refused ∷ left_out
+  pub run : Run steps start done here
+
+-- where a batch is the first that failed, its driver, which is here before and after, stopped inside it; own
+abbrev pub StopsOnce : {S : Type 0} → Steps S → Bool → Option S → List Spelled → Bool → Option S → Type 0
+StopsOnce {S} steps failed before calls fails after =
+    failed ≡ false → fails ≡ true → (start here : S) → before ≡ Some start → after ≡ Some here → StopsInside steps start calls here

@@ -4,8 +4,8 @@ ghost use Rattle.std.specs.Prelude.{◌≡◌, ◌≢◌, ℕ, ◌+◌, ◌^◌,
 ghost use Rattle.std.specs.Thread.{IsSync};
 ghost use Rattle.batch_pack.specs.Batch.{IsBatchSize, empty_batch};
 ghost use Rattle.batch_rail.specs.declared.maker.RailKind.TheVariants.{Inline};
-ghost use Rattle.batch_rail.specs.Run.{RunsFrom};
-ghost use Rattle.batch_rail.specs.Rail.{Told, StandsForNoMore};
+ghost use Rattle.batch_rail.specs.Run.{RunsFrom, StopsOnce};
+ghost use Rattle.batch_rail.specs.Rail.{HasDriver, Told, StandsForNoMore};
 ghost use Rattle.batch_rail.specs.Maker.{IsRingLength, KeepsOthers, IsLaunched};
 
 use crate::maker::{RailKind, RailMaker};
@@ -19,14 +19,14 @@ use std::thread::Threads;
 /// A rail without threads; own.
 #[derive(Drop)]
 pub struct InlineRail<D> {
-    driver: Option<D>,
-    failed: bool,
-    slots: u32,
-    sent: u64,
+    pub(crate) driver: Option<D>,
+    pub(crate) failed: bool,
+    pub(crate) slots: u32,
+    pub(crate) sent: u64,
 }
 
 impl<D: Machine> RailState<D> for InlineRail<D> {
-    ghost stands = { λ rail st. (rail.failed ≡ false) × (rail.driver ≡ Some st) };
+    ghost stands = { λ rail st. HasDriver rail.failed rail.driver st };
 
     ghost failed = { λ rail. rail.failed ≡ true };
 
@@ -42,7 +42,24 @@ impl<D: Machine> RailState<D> for InlineRail<D> {
 }
 
 impl<D: Driver> Rail<D> for InlineRail<D> {
-    fn submit<T: Threads + Sync>(&mut self, rt: &T, full: Batch) -> Batch {
+    fn submit<T: Threads + Sync>(&mut self, rt: &T, full: Batch) -> Batch
+        requires shared { IsSync T.row }
+        requires home { IsSome self.old.driver }
+        requires size { full.size ≡ self.old.slots }
+        requires room { self.old.sent < 2 ^ 62 }
+        ensures empty { result ≡ empty_batch full.size }
+        ensures stands { (st2 : D) → HasDriver self.new.failed self.new.driver st2
+            → RunsFrom (HasDriver self.old.failed self.old.driver) D.steps full.calls st2 }
+        ensures failed { self.new.failed ≡ true → (self.old.failed ≡ true) ⊎ (full.calls ≢ []) }
+        ensures home { IsSome self.new.driver }
+        ensures size { self.new.slots ≡ self.old.slots }
+        ensures sent { self.new.sent ≡ self.old.sent + 1 }
+        // after a refusal no call is carried out: neither in this batch nor in a later one
+        ensures idle { self.old.failed ≡ true
+            → (self.new.failed ≡ true) × (self.new.driver ≡ self.old.driver) }
+        ensures stopped { StopsOnce D.steps self.old.failed self.old.driver
+            full.calls self.new.failed self.new.driver }
+    {
         let mut batch = full;
         let failed = self.failed;
         self.failed = fails(rt, failed, &mut self.driver, &batch);
@@ -80,9 +97,11 @@ fn fails<T: Threads + Sync, D: Driver>(
     batch: &Batch,
 ) -> bool
     ensures runs { result ≡ false → (st2 : D) → driver.new ≡ Some st2
-        → RunsFrom (λ st. (failed ≡ false) × (driver.old ≡ Some st)) D.steps batch.now.calls st2 }
+        → RunsFrom (HasDriver failed driver.old) D.steps batch.now.calls st2 }
     ensures cause { result ≡ true → (failed ≡ true) ⊎ (batch.now.calls ≢ []) }
     ensures home { IsSome driver.old → IsSome driver.new }
+    ensures idle { failed ≡ true → (result ≡ true) × (driver.new ≡ driver.old) }
+    ensures stopped { StopsOnce D.steps failed driver.old batch.now.calls result driver.new }
 {
     if failed {
         return true;

@@ -1,7 +1,7 @@
 //! Carrying out a batch.
 
-ghost use Rattle.std.specs.Prelude.{◌≡◌, ◌≢◌, [], IsErr, OnOk};
-ghost use Rattle.batch_rail.specs.Run.{Run};
+ghost use Rattle.std.specs.Prelude.{◌≡◌, ◌≢◌, [], IsErr, OnErr, OnOk};
+ghost use Rattle.batch_rail.specs.Run.{Run, StopsInside};
 
 use batch_pack::Batch;
 use driver_trait::Driver;
@@ -15,7 +15,8 @@ pub fn run_batch<T: Threads + Sync, D: Driver>(
     batch: &Batch,
 ) -> Result<(), NoMemory>
     ensures ok { OnOk result (Run D.steps driver.old batch.now.calls driver.new) }
-    ensures err { IsErr result → batch.now.calls ≢ [] }
+    ensures err { OnErr result (StopsInside D.steps driver.old batch.now.calls driver.new) }
+    ensures some { IsErr result → batch.now.calls ≢ [] }
 {
     let mut reader = batch.reader();
     while let Some(packed) = reader.next() {
