@@ -1,3 +1,4 @@
 pub mod Cuttings
 pub mod Classes
 pub mod Fronts
+pub mod Failures

@@ -1,5 +1,5 @@
 -- What contracts see of a front, and for which states of the driver it may stand; own.
-use Rattle.std.specs.Prelude.{◌≡◌, ℕ, ◌+◌, ◌-◌, ◌^◌, ◌<◌, ◌≤◌, Bool, false, List, [], length, Option}
+use Rattle.std.specs.Prelude.{◌≡◌, ◌≢◌, ℕ, ◌+◌, ◌-◌, ◌^◌, ◌<◌, ◌≤◌, ◌⊎◌, Bool, false, List, [], length, Option}
 use Rattle.gl_words.specs.declared.call.Call.{Call}
 use Rattle.batch_pack.specs.declared.class.Class.{Class}
 use Rattle.batch_pack.specs.declared.class.Class.TheVariants.{Answer, Sync, Defer}
@@ -35,6 +35,14 @@ StandsFor stands steps front st2 = RunsFrom (stands front.rail) steps front.call
 -- each state for which the new front may stand is one to which the call leads on client memory as it was, with this reply, from a state for which the old one may; own
 abbrev pub CarriesOut : {R S : Type 0} → (R → S → Type 0) → Steps S → Fronting R → Fronting R → Call → Replied → Type 0
 CarriesOut {R} {S} stands steps old new call reply = (st2 : S) → StandsFor stands steps new st2 → (st : S) × StandsFor stands steps old st × steps st call (memory_of old.memory) st2 reply
+
+-- from a state for which the front may stand, the call leads somewhere on client memory, with this reply; own
+abbrev pub MayReply : {R S : Type 0} → (R → S → Type 0) → Steps S → Fronting R → Call → Replied → Type 0
+MayReply {R} {S} stands steps front call reply = (st : S) × (st2 : S) × StandsFor stands steps front st × steps st call (memory_of front.memory) st2 reply
+
+-- a rail may have failed now only where it may have before, or where there is one of these batches; own
+abbrev pub FailsOnlyBy : Type 0 → Type 0 → List (List Spelled) → Type 0
+FailsOnlyBy old new batches = new → old ⊎ (batches ≢ [])
 
 -- the counts after a call of a class, at which so many batches ended; own
 abbrev pub counts_after : Counts → Class → ℕ → Counts

@@ -9,7 +9,7 @@ ghost use Rattle.batch_pack.specs.Cutting.{batch_unless_empty, ended_at, issued,
 ghost use Rattle.batch_rail.specs.Rail.{Told, StandsForNoMore};
 ghost use Rattle.driver_trait.specs.Reply.{Nothing, replied};
 ghost use Rattle.gl_memory.specs.ClientMemory.{written};
-ghost use Rattle.gl_front.specs.Front.{Fronting, new_front, StandsFor, CarriesOut, counts_after, counts_flushed, StopsAtCall, AllRiseLittle, RisesLittle, AllHaveRoom, HasRoom};
+ghost use Rattle.gl_front.specs.Front.{Fronting, new_front, StandsFor, CarriesOut, MayReply, FailsOnlyBy, counts_after, counts_flushed, StopsAtCall, AllRiseLittle, RisesLittle, AllHaveRoom, HasRoom};
 
 use crate::counts::Counts;
 use crate::steps::{await_all, carry_out, put_off, submit_unless_empty};
@@ -89,6 +89,10 @@ impl<D: Driver, R: Rail<D>> Front<D, R> {
         // the reply is the driver's, and no other state is stood for
         ensures ok { IfOk result
             (λ reply. CarriesOut R.stands D.steps self.old self.new call.now (replied reply)) }
+        // a call that waits is answered from a state stood for, and the driver put back
+        ensures replied { class_of call.now ≡ Sync → IfOk result
+            (λ reply. MayReply R.stands D.steps self.old call.now (replied reply)) }
+        ensures sound { class_of call.now ≡ Sync → OnOk result (¬ R.failed self.new.rail) }
         ensures open_batch { OnOk result
             (self.new.calls ≡ open_after (R.size self.old.rail) self.old.calls (issued call.now)) }
         ensures counts { OnOk result
@@ -108,6 +112,12 @@ impl<D: Driver, R: Rail<D>> Front<D, R> {
         ensures refused { self.old.refused ≡ true → IsErr result }
         ensures idle { self.old.refused ≡ true → self.new ≡ self.old }
         ensures deferred { class_of call.now ≢ Sync → IsErr result → self.old.refused ≡ true }
+        // the rail may have failed only where it may have before, or where a batch ended here;
+        // each batch that ends holds a call
+        ensures failed { FailsOnlyBy (R.failed self.old.rail) (R.failed self.new.rail)
+            (ended_at (R.size self.old.rail) self.old.calls (issued call.now)) }
+        ensures err_failed { OnErr result
+            (R.failed self.new.rail → R.failed self.old.rail ⊎ (self.old.calls ≢ [])) }
         ensures size { R.size self.new.rail ≡ R.size self.old.rail }
         ensures sent { RisesLittle (R.sent self.old.rail) (R.sent self.new.rail) }
         ensures rises { AllRiseLittle self.old.counts self.new.counts }
@@ -131,6 +141,8 @@ impl<D: Driver, R: Rail<D>> Front<D, R> {
         requires counts { AllHaveRoom self.old.counts }
         requires sent { HasRoom (R.sent self.old.rail) }
         ensures carries { CarriesOut R.stands D.steps self.old self.new call.now Nothing }
+        ensures failed { FailsOnlyBy (R.failed self.old.rail) (R.failed self.new.rail)
+            (ended_at (R.size self.old.rail) self.old.calls (issued call.now)) }
         ensures open_batch { self.new.calls
             ≡ open_after (R.size self.old.rail) self.old.calls (issued call.now) }
         ensures counts { self.new.counts ≡ counts_after self.old.counts Defer
@@ -160,6 +172,10 @@ impl<D: Driver, R: Rail<D>> Front<D, R> {
         requires sent { HasRoom (R.sent self.old.rail) }
         ensures ok { IfOk result
             (λ reply. CarriesOut R.stands D.steps self.old self.new call.now (replied reply)) }
+        ensures failed { R.failed self.new.rail → R.failed self.old.rail ⊎ (self.old.calls ≢ []) }
+        ensures replied { IfOk result
+            (λ reply. MayReply R.stands D.steps self.old call.now (replied reply)) }
+        ensures sound { OnOk result (¬ R.failed self.new.rail) }
         ensures open_batch { self.new.calls ≡ [] }
         ensures counts { OnOk result (self.new.counts ≡ counts_after self.old.counts Sync
             (length (batch_unless_empty self.old.calls))) }

@@ -11,6 +11,7 @@ ghost use Rattle.batch_rail.specs.Run.{RunsFrom};
 ghost use Rattle.batch_rail.specs.Rail.{Told, StandsForNoMore};
 ghost use Rattle.driver_trait.specs.Reply.{replied};
 ghost use Rattle.gl_memory.specs.ClientMemory.{memory_of};
+ghost use Rattle.gl_front.specs.Front.{FailsOnlyBy};
 
 use batch_pack::{Batch, Full, sends_batch};
 use batch_rail::Rail;
@@ -34,7 +35,8 @@ pub fn submit_unless_empty<T: Threads + Sync, D: Driver, R: Rail<D>>(
     ensures few { result.1 ≤ 1 }
     ensures stands { (st2 : D) → R.stands rail.new st2
         → RunsFrom (R.stands rail.old) D.steps batch.calls st2 }
-    ensures failed { R.failed rail.new → R.failed rail.old ⊎ (batch.calls ≢ []) }
+    ensures failed { FailsOnlyBy (R.failed rail.old) (R.failed rail.new)
+        (batch_unless_empty batch.calls) }
     ensures home { R.home rail.new }
     ensures size { R.size rail.new ≡ R.size rail.old }
     ensures sent { R.sent rail.new ≡ R.sent rail.old + result.1 }
@@ -70,6 +72,8 @@ fn put_behind<T: Threads + Sync, D: Driver, R: Rail<D>>(
     requires bounds { IsBatchSize batch.size }
     requires size { batch.size ≡ R.size rail.old }
     requires room { R.sent rail.old < 2 ^ 62 }
+    ensures failed { FailsOnlyBy (R.failed rail.old) (R.failed rail.new)
+        (cut_before batch.size batch.calls (issued call.now).spelled) }
     ensures size { result.0.size ≡ batch.size }
     ensures calls { result.0.calls ≡ joined batch.size batch.calls (issued call.now).spelled
         ++ (issued call.now).spelled ∷ [] }
@@ -78,7 +82,6 @@ fn put_behind<T: Threads + Sync, D: Driver, R: Rail<D>>(
     ensures few { result.1 ≤ 1 }
     ensures stands { (st2 : D) → RunsFrom (R.stands rail.new) D.steps result.0.calls st2
         → RunsFrom (R.stands rail.old) D.steps (batch.calls ++ (issued call.now).spelled ∷ []) st2 }
-    ensures failed { R.failed rail.new → R.failed rail.old ⊎ (batch.calls ≢ []) }
     ensures home { R.home rail.new }
     ensures rail_size { R.size rail.new ≡ R.size rail.old }
     ensures sent { R.sent rail.new ≡ R.sent rail.old + result.1 }
@@ -107,6 +110,8 @@ fn submit_if_sent<T: Threads + Sync, D: Driver, R: Rail<D>>(
     requires home { R.home rail.old }
     requires size { batch.size ≡ R.size rail.old }
     requires room { R.sent rail.old < 2 ^ 62 }
+    ensures failed { FailsOnlyBy (R.failed rail.old) (R.failed rail.new)
+        (if is_flush last.now then batch_unless_empty batch.calls else []) }
     ensures size { result.0.size ≡ batch.size }
     ensures calls { result.0.calls ≡ (if is_flush last.now then [] else batch.calls) }
     ensures count { result.1
@@ -140,6 +145,8 @@ pub fn put_off<T: Threads + Sync, D: Driver, R: Rail<D>>(
     requires bounds { IsBatchSize batch.size }
     requires size { batch.size ≡ R.size rail.old }
     requires room { R.sent rail.old < 2 ^ 62 - 1 }
+    ensures failed { FailsOnlyBy (R.failed rail.old) (R.failed rail.new)
+        (ended_at batch.size batch.calls (issued call.now)) }
     ensures size { result.0.size ≡ batch.size }
     ensures calls { result.0.calls ≡ open_after batch.size batch.calls (issued call.now) }
     ensures count { result.1 ≡ length (ended_at batch.size batch.calls (issued call.now)) }
@@ -165,10 +172,13 @@ pub fn carry_out<T: Threads + Sync, D: Driver, R: Rail<D>>(
     memory: &ClientMemory,
 ) -> Result<Reply, NoMemory>
     requires home { R.home rail.old }
+    ensures replied { IfOk result (λ reply. (st : D) × (st2 : D) × R.stands rail.old st
+        × D.steps st call.now (memory_of memory.now) st2 (replied reply)) }
     ensures ok { IfOk result (λ reply. (st2 : D) → R.stands rail.new st2 → (st : D)
         × R.stands rail.old st
         × D.steps st call.now (memory_of memory.now) st2 (replied reply)) }
     ensures sound { OnOk result (¬ R.failed rail.new) }
+    ensures failed { R.failed rail.new → R.failed rail.old }
     ensures err { OnErr result (StandsForNoMore (R.stands rail.old) (R.stands rail.new)) }
     ensures home { R.home rail.new }
     ensures size { R.size rail.new ≡ R.size rail.old }

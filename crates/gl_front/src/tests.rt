@@ -1,5 +1,5 @@
 //! Each public call over a driver that keeps the calls that it met. Expected numbers follow from
-//! the lengths of the spellings: ClearColorx has 5 slots, Clear 2, the others 1.
+//! the lengths of the spellings: a slot, and one more for each argument.
 
 ghost use Rattle.std.specs.Prelude.{◌≡◌, ◌≤◌, [], length, IfOk};
 ghost use Rattle.driver_trait.specs.Recorder.{RecorderSteps};
@@ -141,11 +141,20 @@ const COLOUR: Call = Call::ClearColorx {
     alpha: i32::MIN,
 };
 
+const FRUSTUM: Call = Call::Frustumx {
+    left: -65536,
+    right: 65536,
+    bottom: -65536,
+    top: 65536,
+    near: 65536,
+    far: 131072,
+};
+
 #[test]
 fn batches_of_16_slots_are_cut_where_the_next_call_does_not_fit(
     rt: HostRuntime,
 ) -> Result<(), Fail> {
-    let rows: [(&[Call], u64); 11] = [
+    let rows: [(&[Call], u64); 13] = [
         (&[], 0),
         (&[Call::Finish, Call::GetError], 0),
         (&[Call::Flush, Call::Flush], 2),
@@ -154,6 +163,8 @@ fn batches_of_16_slots_are_cut_where_the_next_call_does_not_fit(
         (&[COLOUR, COLOUR, COLOUR, COLOUR], 2),
         (&[COLOUR, COLOUR, COLOUR, CLEAR], 2),
         (&[COLOUR, COLOUR, COLOUR, Call::Flush], 1),
+        (&[FRUSTUM, FRUSTUM, Call::PushMatrix, Call::PopMatrix], 1),
+        (&[FRUSTUM, FRUSTUM, Call::PushMatrix, CLEAR], 2),
         (
             &[COLOUR, COLOUR, COLOUR, CLEAR, Call::Flush, Call::Flush],
             3,

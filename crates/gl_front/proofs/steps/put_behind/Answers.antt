@@ -7,6 +7,7 @@ use Rattle.batch_rail.specs.Run.{RunsFrom}
 use Rattle.batch_rail.proofs.Runs.{RunsFrom-append}
 use Rattle.batch_rail.proofs.Journals.{Told-none, Told-along}
 use Rattle.gl_front.proofs.Cuttings.{packed_behind, packed_alone, not_below}
+use Rattle.gl_front.proofs.Failures.{FailsOnlyBy-along}
 use Rattle.gl_front.proofs.steps.put_behind.Goals as goal
 
 pub returns-in-Ok-clause-calls : goal.returns-in-Ok-clause-calls
@@ -40,6 +41,11 @@ returns-in-Err-clause-stands g c =
     RunsFrom-append g.D.Machine.steps (g.R.RailState.stands c.args.rail.now) (g.R.RailState.stands c.submit_unless_empty-batch.new.rail) c.args.batch.calls ((issued c.args.call.now).spelled ∷ []) st2
     (λ st may. subst (λ (b : Packing). RunsFrom (g.R.RailState.stands c.args.rail.now) g.D.Machine.steps b.calls st) c.in-Err.ensures.err (c.submit_unless_empty-batch.ensures.stands st may))
     (subst (λ (l : List Spelled). RunsFrom (g.R.RailState.stands c.submit_unless_empty-batch.new.rail) g.D.Machine.steps l st2) alone runs)
+
+pub returns-in-Err-clause-failed : goal.returns-in-Err-clause-failed
+returns-in-Err-clause-failed g c =
+    let same = ap (λ (b : Packing). batch_unless_empty b.calls) c.in-Err.ensures.err in
+    FailsOnlyBy-along _ _ _ _ (same ∙ sym (cut_before-full c.args.batch.size c.args.batch.calls (issued c.args.call.now).spelled (c.in-Err.ensures.full.0 refl))) c.submit_unless_empty-batch.ensures.failed
 
 pub returns-in-Err-clause-journal : goal.returns-in-Err-clause-journal
 returns-in-Err-clause-journal g c =

@@ -1,6 +1,7 @@
 use Rattle.std.proofs.Common.{◌∙◌, arith}
 use Rattle.batch_rail.proofs.Journals.{Told-along, Told-then}
 use Rattle.gl_front.proofs.Cuttings.{ended_at-behind, open_after-behind, length-ended_at}
+use Rattle.gl_front.proofs.Failures.{FailsOnlyBy-along, FailsOnlyBy-then}
 use Rattle.gl_front.proofs.steps.put_off.Goals as goal
 
 pub returns-clause-calls : goal.returns-clause-calls
@@ -16,6 +17,12 @@ returns-clause-count g c =
       c.submit_if_sent-batch.ensures.count,
       length-ended_at c.args.batch.size c.args.batch.calls c.args.call.now c.put_behind-batch.result.0.calls c.requires.class c.put_behind-batch.ensures.calls,
     )
+
+pub returns-clause-failed : goal.returns-clause-failed
+returns-clause-failed g c =
+    FailsOnlyBy-along _ _ _ _
+    (ended_at-behind c.args.batch.size c.args.batch.calls c.args.call.now c.put_behind-batch.result.0.calls c.requires.class c.put_behind-batch.ensures.calls)
+    (FailsOnlyBy-then _ _ _ _ _ c.put_behind-batch.ensures.failed c.submit_if_sent-batch.ensures.failed)
 
 pub returns-clause-journal : goal.returns-clause-journal
 returns-clause-journal g c =

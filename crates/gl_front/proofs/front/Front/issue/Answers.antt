@@ -9,10 +9,18 @@ use Rattle.gl_front.specs.Front.{counts_after}
 use Rattle.gl_front.proofs.Classes.{class_of-never_answer}
 use Rattle.batch_rail.proofs.Journals.{Told-along}
 use Rattle.gl_front.proofs.Fronts.{OnOk-always, OnOk-weaker, OnErr-weaker}
+use Rattle.gl_front.proofs.Failures.{FailsOnlyBy-along, FailsOnlyBy-by_calls}
 use Rattle.gl_front.proofs.front.Front.issue.Goals as goal
 
 pub unreachable-requires : goal.unreachable-requires
 unreachable-requires g c = class_of-never_answer c.args.call.now (sym c.call_class.ensures ∙ c.in-Answer.is)
+
+pub returns-in-Sync-clause-failed : goal.returns-in-Sync-clause-failed
+returns-in-Sync-clause-failed g c =
+    let class : class_of c.args.call.now ≡ Sync = sym c.call_class.ensures ∙ c.in-Sync.is in
+    FailsOnlyBy-along _ _ _ _
+    (sym (ended_at-sync (g.R.RailState.size c.args.self.now.rail) c.args.self.now.calls (issued c.args.call.now) class))
+    (FailsOnlyBy-by_calls _ _ _ c.synchronise.ensures.failed)
 
 pub returns-in-Sync-clause-open_batch : goal.returns-in-Sync-clause-open_batch
 returns-in-Sync-clause-open_batch g c =
