@@ -72,7 +72,47 @@ fn a_name_is_at_most_32_letters_digits_hyphens_and_underscores(
     Ok(())
 }
 
-// The refusals are those of the worked examples, and of a reference program.
+// The numbers of arguments are those of the header `GLES/gl.h`.
+#[test]
+fn each_call_takes_its_number_of_arguments(rt: HostRuntime) -> Result<(), Fail> {
+    let calls = [
+        ("Clear", 1),
+        ("ClearColorx", 4),
+        ("Finish", 0),
+        ("Flush", 0),
+        ("Frustumx", 6),
+        ("GetError", 0),
+        ("LoadIdentity", 0),
+        ("MatrixMode", 1),
+        ("Orthox", 6),
+        ("PopMatrix", 0),
+        ("PushMatrix", 0),
+        ("Rotatex", 4),
+        ("Scalex", 3),
+        ("Translatex", 3),
+        ("Viewport", 4),
+    ];
+    for (name, wanted) in &calls {
+        for given in 0..10 {
+            let mut script = Vec::new(rt.alloc());
+            script.extend_from_slice(b"glscript 1\ncontext 0 4 4 0\n0 ".as_slice())?;
+            script.extend_from_slice(name.as_bytes())?;
+            for _ in 0..given {
+                script.extend_from_slice(b" 1".as_slice())?;
+            }
+            script.extend_from_slice(b"\nend\n".as_slice())?;
+            let outcome = if given == *wanted {
+                "read"
+            } else {
+                "line 3: WrongCount"
+            };
+            assert_eq!(rt; answer(rt.alloc(), script.as_slice())?.as_str(), outcome);
+        }
+    }
+    Ok(())
+}
+
+// The refusals are those of the worked examples, of a reference program, and of the table in FORMATS.md.
 #[test]
 fn a_refusal_names_the_line_and_its_first_fault(rt: HostRuntime) -> Result<(), Fail> {
     let head = "glscript 1\ncontext 0 4 4 0\n";
@@ -94,6 +134,9 @@ fn a_refusal_names_the_line_and_its_first_fault(rt: HostRuntime) -> Result<(), F
         (head, "0 Clear 5x 5\n", "line 3: WrongCount"),
         (head, "0 Clear\nend\n", "line 3: WrongCount"),
         (head, "0\n", "line 3: WrongCount"),
+        (head, "0 MatrixMode\n", "line 3: WrongCount"),
+        (head, "0 MatrixMode MODELVIEWS\n", "line 3: BadNumber"),
+        (head, "0 Rotate 0 0 0 0\n", "line 3: UnknownWord"),
         (
             head,
             "0 ClearColorx 2147483648 0 0 0\n",
@@ -143,6 +186,21 @@ fn numbers_hold_at_their_edges(rt: HostRuntime) -> Result<(), Fail> {
         (
             "0 1 1 0",
             "0 ClearColorx 0 0 0 -2147483649",
+            "line 3: OutOfRange",
+        ),
+        ("0 1 1 0", "0 MatrixMode MODELVIEW", "read"),
+        ("0 1 1 0", "0 MatrixMode 4294967295", "read"),
+        ("0 1 1 0", "0 MatrixMode 4294967296", "line 3: OutOfRange"),
+        ("0 1 1 0", "0 MatrixMode -1", "line 3: OutOfRange"),
+        ("0 1 1 0", "0 Viewport 2147483647 -2147483648 0 0", "read"),
+        (
+            "0 1 1 0",
+            "0 Viewport 2147483648 0 0 0",
+            "line 3: OutOfRange",
+        ),
+        (
+            "0 1 1 0",
+            "0 Viewport 0 0 0 -2147483649",
             "line 3: OutOfRange",
         ),
         ("0 1 1 0", "0 Clear 0xFFFFFFFF", "read"),
