@@ -1,6 +1,5 @@
 -- How the counts and the journal of a front go on, a call at a time.
-use Rattle.std.proofs.Common.{◌≡◌, cond, ℕ, ◌+◌, ◌<◌, List, [], ◌∷◌, ◌++◌, length, refl, sym, ap, subst, ◌∙◌, append_assoc, arith, zero-add, length-append, Option, Some}
-use Rattle.std.proofs.lemmas.List.{append-nil}
+use Rattle.std.proofs.Common.{◌≡◌, cond, ℕ, ◌+◌, List, [], ◌∷◌, ◌++◌, length, refl, sym, ap, subst, ◌∙◌, append_assoc, arith, zero-add, Option}
 use Rattle.batch_pack.specs.Spelling.{Spelled}
 use Rattle.batch_pack.specs.declared.class.Class.{Class}
 use Rattle.batch_pack.specs.declared.class.Class.TheVariants.{Answer, Sync, Defer}

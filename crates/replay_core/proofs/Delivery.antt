@@ -1,6 +1,6 @@
 -- What stands after a run, from what putting and writing leave.
-use Rattle.std.proofs.Common.{◌≡◌, ℕ, List, Option, inl, inr}
-use Rattle.gl_outside.specs.Moved.{Adds, AddsPart}
+use Rattle.std.proofs.Common.{ℕ, List, Option, inr}
+use Rattle.gl_outside.specs.Moved.{Adds}
 use Rattle.replay_core.specs.declared.status.Status.{Status}
 use Rattle.replay_core.specs.declared.status.Status.TheVariants.{Ok as Done, BadWords, ReadFault, BadScript, ShelfFault, WriteFault, NoMemory}
 use Rattle.replay_core.specs.Deliver.{Delivers, Writes}

@@ -2,6 +2,7 @@ pub mod CountLemmas
 pub mod Delivery
 pub mod DirectLemmas
 pub mod Images
+pub mod JournalLemmas
 pub mod Outcomes
 pub mod Rails
 pub mod Reports

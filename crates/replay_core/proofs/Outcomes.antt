@@ -1,16 +1,13 @@
 -- What a run leaves, from what its parts leave.
-use Rattle.std.proofs.Common.{◌≡◌, ℕ, ◌+◌, ◌<◌, ◌≤◌, List, [], ◌∷◌, ◌++◌, length, take, drop, Option, Some, None, Ok, Err, refl, sym, ap, subst, ◌∙◌, arith, inl, inr, ◌⊎◌}
-use Rattle.std.proofs.lemmas.Bool.Decides.{nat_tests}
-use Rattle.std.proofs.lemmas.Grind.{common_steps}
-use Rattle.std.proofs.lemmas.List.{take_all, append-nil}
-use Rattle.std.specs.Prelude.{nat_le, ◌&&◌, if◌then◌else◌, option_and_then, count_by, ◌==◌, IfSome, IsSomeAnd}
+use Rattle.std.proofs.Common.{◌≡◌, ℕ, ◌+◌, ◌<◌, ◌≤◌, List, [], ◌∷◌, ◌++◌, length, take, Option, Some, None, Ok, Err, sym, ap, subst, ◌∙◌, arith, inl, inr, ◌⊎◌}
+use Rattle.std.proofs.lemmas.List.{take_all}
 use Rattle.std.proofs.lemmas.Bool.{cases_lt}
 use Rattle.std.proofs.Math.Seq.{take-append_seam}
 use Rattle.gl_outside.proofs.Outside.{Adds-nil}
-use Rattle.gl_outside.specs.Moved.{Takes, TakesAtMost, Adds, AddsPart, IsAtEnd}
+use Rattle.gl_outside.specs.Moved.{Takes, Adds, AddsPart, IsAtEnd}
 use Rattle.replay_core.specs.declared.status.Status.{Status}
-use Rattle.replay_core.specs.declared.status.Status.TheVariants.{Ok as Done, BadWords, ReadFault, BadScript, ShelfFault, WriteFault, NoMemory}
-use Rattle.replay_core.specs.Deliver.{Delivers, LeavesBoth}
+use Rattle.replay_core.specs.declared.status.Status.TheVariants.{Ok as Done, ShelfFault, WriteFault, NoMemory}
+use Rattle.replay_core.specs.Deliver.{Delivers}
 use Rattle.script_reader.specs.declared.script.ContextSpec.{ContextSpec}
 use Rattle.script_reader.specs.Limits.{HasOneContext}
 use Rattle.replay_core.specs.Script.{IsOneContext, seen_script}
@@ -20,7 +17,9 @@ use Rattle.script_reader.specs.declared.script.Script.{Script}
 use Rattle.script_reader.proofs.Within.{what_is_spelled_is_within}
 use Rattle.replay_core.specs.declared.words.Command.{Command}
 use Rattle.replay_core.specs.Report.{report_for}
+use Rattle.batch_pack.specs.Spelling.{Spelled}
 use Rattle.replay_core.specs.Images.{images_of, frame_of, frame_name}
+use Rattle.replay_core.specs.Journals.{batches_for, Journals}
 use Rattle.replay_core.specs.Direct.{final_own}
 use Rattle.replay_core.specs.Outcome.{most_bytes, ReadsScript, ReadsNoScript, Replays, PutsSome, WritesSome, StopsAnywhere}
 
@@ -72,46 +71,46 @@ accepted_is_read left bytes after script within taken whole accepted =
     ap (λ bs. script_of bs) (read_is_take (most_bytes + 1) left bytes after within taken whole ∙ all) ∙ accepted
 
 -- what all that was put and written is, where a run ends well
-pub replays : (command : Command) (status : Status) (lb la hb ha : Option (List ℕ)) (sb sa : Option (List (List ℕ × List ℕ))) (script : Script) (image report : List ℕ) → status ≡ Done → ReadsScript lb la script → image ≡ frame_of (final_own (seen_script script)) → report ≡ report_for command (seen_script script) → Delivers status hb ha sb sa ((frame_name, image) ∷ []) report → Replays command lb la hb ha sb sa
+pub replays : (command : Command) (status : Status) (lb la hb ha : Option (List ℕ)) (sb sa : Option (List (List ℕ × List ℕ))) (jb ja : ℕ → Option (List (List Spelled))) (script : Script) (image report : List ℕ) → status ≡ Done → ReadsScript lb la script → Journals (batches_for command (seen_script script)) jb ja → image ≡ frame_of (final_own (seen_script script)).frame → report ≡ report_for command (seen_script script) → Delivers status hb ha sb sa ((frame_name, image) ∷ []) report → Replays command lb la hb ha sb sa jb ja
 unfolding images_of
-replays command status lb la hb ha sb sa script image report is_done read is_image is_report delivers =
+replays command status lb la hb ha sb sa jb ja script image report is_done read handed_over is_image is_report delivers =
     let P : Status → Type 0 = λ s. Delivers s hb ha sb sa ((frame_name, image) ∷ []) report in
     let done : Delivers Done hb ha sb sa ((frame_name, image) ∷ []) report = subst P is_done delivers in
     let W : List ℕ → Type 0 = λ r. Adds hb ha r in
     let I : List ℕ → Type 0 = λ i. Adds sb sa ((frame_name, i) ∷ []) in
-    record { script = script; read = read; written = subst W is_report done.0; put = subst I is_image done.1 }
+    record { script = script; read = read; written = subst W is_report done.0; put = subst I is_image done.1; handed_over = handed_over }
 
 -- what stands after a put that failed
-pub puts_some : (status : Status) (lb la hb ha : Option (List ℕ)) (sb sa : Option (List (List ℕ × List ℕ))) (script : Script) (image report : List ℕ) (stored : ℕ) → status ≡ ShelfFault stored → ReadsScript lb la script → Delivers status hb ha sb sa ((frame_name, image) ∷ []) report → PutsSome lb la sb sa stored
+pub puts_some : (command : Command) (status : Status) (lb la hb ha : Option (List ℕ)) (sb sa : Option (List (List ℕ × List ℕ))) (jb ja : ℕ → Option (List (List Spelled))) (script : Script) (image report : List ℕ) (stored : ℕ) → status ≡ ShelfFault stored → ReadsScript lb la script → Journals (batches_for command (seen_script script)) jb ja → Delivers status hb ha sb sa ((frame_name, image) ∷ []) report → PutsSome command lb la sb sa jb ja stored
 unfolding images_of
-puts_some status lb la hb ha sb sa script image report stored is_fault read delivers =
+puts_some command status lb la hb ha sb sa jb ja script image report stored is_fault read handed_over delivers =
     let P : Status → Type 0 = λ s. Delivers s hb ha sb sa ((frame_name, image) ∷ []) report in
     let stands = subst P is_fault delivers in
     let none : stored ≡ 0 = stands.0 in
     let A : Option (List (List ℕ × List ℕ)) → Type 0 = λ l. Adds sb l [] in
-    let T : ℕ → Type 0 = λ n. Adds sb sa (take n ((frame_name, frame_of (final_own (seen_script script))) ∷ [])) in
-    record { script = script; read = read; fewer = omega arith; put = subst T (sym none) (subst A (sym stands.1.listed) (Adds-nil sb)) }
+    let T : ℕ → Type 0 = λ n. Adds sb sa (take n ((frame_name, frame_of (final_own (seen_script script)).frame) ∷ [])) in
+    record { script = script; read = read; fewer = omega arith; put = subst T (sym none) (subst A (sym stands.1.listed) (Adds-nil sb)); handed_over = handed_over }
 
 -- what stands after a write that failed
-pub writes_some : (command : Command) (status : Status) (lb la hb ha : Option (List ℕ)) (sb sa : Option (List (List ℕ × List ℕ))) (script : Script) (image report : List ℕ) → status ≡ WriteFault → ReadsScript lb la script → image ≡ frame_of (final_own (seen_script script)) → report ≡ report_for command (seen_script script) → Delivers status hb ha sb sa ((frame_name, image) ∷ []) report → WritesSome command lb la hb ha sb sa
+pub writes_some : (command : Command) (status : Status) (lb la hb ha : Option (List ℕ)) (sb sa : Option (List (List ℕ × List ℕ))) (jb ja : ℕ → Option (List (List Spelled))) (script : Script) (image report : List ℕ) → status ≡ WriteFault → ReadsScript lb la script → Journals (batches_for command (seen_script script)) jb ja → image ≡ frame_of (final_own (seen_script script)).frame → report ≡ report_for command (seen_script script) → Delivers status hb ha sb sa ((frame_name, image) ∷ []) report → WritesSome command lb la hb ha sb sa jb ja
 unfolding images_of
-writes_some command status lb la hb ha sb sa script image report is_fault read is_image is_report delivers =
+writes_some command status lb la hb ha sb sa jb ja script image report is_fault read handed_over is_image is_report delivers =
     let P : Status → Type 0 = λ s. Delivers s hb ha sb sa ((frame_name, image) ∷ []) report in
     let stands = subst P is_fault delivers in
     let W : List ℕ → Type 0 = λ r. AddsPart hb ha r in
     let I : List ℕ → Type 0 = λ i. Adds sb sa ((frame_name, i) ∷ []) in
-    record { script = script; read = read; written = subst W is_report stands.written; put = subst I is_image stands.put }
+    record { script = script; read = read; written = subst W is_report stands.written; put = subst I is_image stands.put; handed_over = handed_over }
 
 -- what stands where memory was refused
-pub stops_anywhere : (command : Command) (status : Status) (lb la hb ha : Option (List ℕ)) (sb sa : Option (List (List ℕ × List ℕ))) (script : Script) (image report : List ℕ) → status ≡ NoMemory → ReadsScript lb la script → image ≡ frame_of (final_own (seen_script script)) → report ≡ report_for command (seen_script script) → Delivers status hb ha sb sa ((frame_name, image) ∷ []) report → StopsAnywhere command lb la hb ha sb sa
+pub stops_anywhere : (command : Command) (status : Status) (lb la hb ha : Option (List ℕ)) (sb sa : Option (List (List ℕ × List ℕ))) (jb ja : ℕ → Option (List (List Spelled))) (script : Script) (image report : List ℕ) → status ≡ NoMemory → ReadsScript lb la script → Journals (batches_for command (seen_script script)) jb ja → image ≡ frame_of (final_own (seen_script script)).frame → report ≡ report_for command (seen_script script) → Delivers status hb ha sb sa ((frame_name, image) ∷ []) report → StopsAnywhere command lb la hb ha sb sa jb ja
 unfolding images_of
-stops_anywhere command status lb la hb ha sb sa script image report is_none read is_image is_report delivers =
+stops_anywhere command status lb la hb ha sb sa jb ja script image report is_none read handed_over is_image is_report delivers =
     let P : Status → Type 0 = λ s. Delivers s hb ha sb sa ((frame_name, image) ∷ []) report in
     let W : List ℕ → Type 0 = λ r. AddsPart hb ha r in
     let I : List ℕ → Type 0 = λ i. Adds sb sa ((frame_name, i) ∷ []) in
     elim (subst P is_none delivers) [
       | inl leaves ↦ inl (leaves, record { some = read.bytes; taken = read.taken; few = omega (arith, script_fits read.bytes script read.is_script) })
-      | inr stands ↦ inr (record { script = script; read = read; written = subst W is_report stands.written; put = subst I is_image stands.put })
+      | inr stands ↦ inr (record { script = script; read = read; written = subst W is_report stands.written; put = subst I is_image stands.put; handed_over = handed_over })
     ]
 
 -- contexts that are one within the limits of a script

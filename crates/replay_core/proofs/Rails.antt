@@ -6,7 +6,7 @@ use Rattle.std.specs.Str.{bytes_eq}
 use Rattle.batch_rail.specs.declared.maker.RailKind.{RailKind}
 use Rattle.batch_rail.specs.declared.maker.RailKind.TheVariants.{Inline}
 use Rattle.replay_core.specs.declared.words.Command.{Command}
-use Rattle.replay_core.specs.declared.words.Command.TheVariants.{Run, Direct}
+use Rattle.replay_core.specs.declared.words.Command.TheVariants.{Direct}
 use Rattle.replay_core.specs.declared.words.Given.{Given}
 use Rattle.replay_core.specs.Words.{command_of, decimal_within, none_given, options_of, rail_in, rail_named, run_with, with_option}
 

@@ -12,9 +12,10 @@ use Rattle.gl_front.specs.Front.{Fronting, StandsFor, new_front}
 use Rattle.script_reader.specs.declared.script.Line.{Line}
 use Rattle.replay_core.specs.declared.lines.Answer.{Answer}
 use Rattle.replay_core.specs.Script.{Scripted, calls_of, call_on}
-use Rattle.replay_core.specs.Own.{Own, first_own, own_after, reply_of}
-use Rattle.replay_core.specs.Direct.{told_of, own_after_lines, answers_of, final_own, script_answers}
-use Rattle.replay_core.specs.Soft.{OwnSteps}
+use Rattle.soft_driver.specs.Frame.{FrameView}
+use Rattle.soft_driver.specs.Own.{Own, own_reply}
+use Rattle.soft_driver.specs.Soft.{OwnSteps}
+use Rattle.replay_core.specs.Direct.{told_of, own_after_lines, answers_of, start_of, first_bytes, final_own, script_answers}
 use Rattle.replay_core.specs.Images.{ppm_of, frame_of}
 use Rattle.replay_core.specs.Report.{report_text, report_of}
 use Rattle.batch_pack.specs.Cutting.{Tally, issued, tally_of}
@@ -35,13 +36,13 @@ Lines-push steps memory st mid st2 (first ∷ lines) line done reply (next, firs
 )
 
 -- the lines lead a context to the state and the answers of the direct machine
-pub lines_are_direct : (memory : List ℕ) (st st2 : Own) (lines : List Line) (done : List Answer) → Lines OwnSteps memory st lines st2 done → (st2 ≡ own_after_lines st lines) × (done ≡ answers_of st lines)
+pub lines_are_direct : (memory : List ℕ) (st st2 : Own) (lines : List Line) (done : List Answer) → Lines OwnSteps memory st lines st2 done → (st2 ≡ own_after_lines memory st lines) × (done ≡ answers_of memory st lines)
 unfolding own_after_lines answers_of
 lines_are_direct memory st st2 [] done run = run
 lines_are_direct memory st st2 (line ∷ lines) done (mid, reply, others, step, same, rest) =
-    let later : (st2 ≡ own_after_lines mid lines) × (others ≡ answers_of mid lines) = lines_are_direct memory mid st2 lines others rest in (
-      later.0 ∙ ap (λ st. own_after_lines st lines) step.0,
-      same ∙ ap (λ r. told_of line r ++ others) step.1 ∙ ap (λ os. told_of line (reply_of st (call_on line)) ++ os) (later.1 ∙ ap (λ s. answers_of s lines) step.0),
+    let later : (st2 ≡ own_after_lines memory mid lines) × (others ≡ answers_of memory mid lines) = lines_are_direct memory mid st2 lines others rest in (
+      later.0 ∙ ap (λ st. own_after_lines memory st lines) step.0,
+      same ∙ ap (λ r. told_of line r ++ others) step.1 ∙ ap (λ os. told_of line (own_reply st (call_on line)) ++ os) (later.1 ∙ ap (λ s. answers_of memory s lines) step.0),
     )
 
 -- lines run, and then one more line whose call is carried out
@@ -76,31 +77,34 @@ on_memory {S} ends later_ends steps memory other call reply same carries =
     subst P same carries
 
 -- what a front stands for at the end, its rail launched with a first context, is the end of the direct machine; and so are the answers
-run_from_new : {R : Type 0} (stands : R → Own → Type 0) (rail : R) (memory bytes : List ℕ) (first driver : Own) (later flushed : Fronting R) (lines : List Line) (answers : List Answer) → ((st : Own) → stands rail st → st ≡ first) → RunsLines (StandsFor stands OwnSteps (new_front rail bytes)) OwnSteps memory lines (StandsFor stands OwnSteps later) [] answers → StandsForNoMore (StandsFor stands OwnSteps later) (StandsFor stands OwnSteps flushed) → flushed.calls ≡ [] → stands flushed.rail driver → (driver ≡ own_after_lines first lines) × (answers ≡ answers_of first lines)
+run_from_new : {R : Type 0} (stands : R → Own → Type 0) (rail : R) (memory bytes : List ℕ) (first driver : Own) (later flushed : Fronting R) (lines : List Line) (answers : List Answer) → ((st : Own) → stands rail st → st ≡ first) → RunsLines (StandsFor stands OwnSteps (new_front rail bytes)) OwnSteps memory lines (StandsFor stands OwnSteps later) [] answers → StandsForNoMore (StandsFor stands OwnSteps later) (StandsFor stands OwnSteps flushed) → flushed.calls ≡ [] → stands flushed.rail driver → (driver ≡ own_after_lines memory first lines) × (answers ≡ answers_of memory first lines)
 run_from_new {R} stands rail memory bytes first driver later flushed lines answers only run flush none ends =
     let P : List Spelled → Type 0 = λ calls. RunsFrom (stands flushed.rail) OwnSteps calls driver in
     let at_end : RunsFrom (stands flushed.rail) OwnSteps [] driver = record { start = driver; may_start = ends; run = refl } in
     let start = run.leads driver (flush driver (subst P (sym none) at_end)) in
     let is_first : start.0 ≡ first = start.1.run ∙ only start.1.start start.1.may_start in
-    let direct : (driver ≡ own_after_lines start.0 lines) × (run.done ≡ answers_of start.0 lines) = lines_are_direct memory start.0 driver lines run.done start.2 in
-    (direct.0 ∙ ap (λ st. own_after_lines st lines) is_first, run.extended ∙ (direct.1 ∙ ap (λ st. answers_of st lines) is_first))
+    let direct : (driver ≡ own_after_lines memory start.0 lines) × (run.done ≡ answers_of memory start.0 lines) = lines_are_direct memory start.0 driver lines run.done start.2 in
+    (direct.0 ∙ ap (λ st. own_after_lines memory st lines) is_first, run.extended ∙ (direct.1 ∙ ap (λ st. answers_of memory st lines) is_first))
 
 -- the same of a run whose words are known to be those by equations alone
-pub run_is_direct : {R : Type 0} (stands : R → Own → Type 0) (rail back : R) (memory bytes : List ℕ) (front later flushed : Fronting R) (driver : Own) (script : Scripted) (lines : List Line) (old answers : List Answer) → ((st : Own) → stands rail st → st ≡ first_own script.width script.height) → front ≡ new_front rail bytes → lines ≡ script.lines → old ≡ [] → RunsLines (StandsFor stands OwnSteps front) OwnSteps memory lines (StandsFor stands OwnSteps later) old answers → StandsForNoMore (StandsFor stands OwnSteps later) (StandsFor stands OwnSteps flushed) → flushed.calls ≡ [] → back ≡ flushed.rail → stands back driver → (driver ≡ final_own script) × (answers ≡ script_answers script)
+pub run_is_direct : {R : Type 0} (stands : R → Own → Type 0) (rail back : R) (memory bytes : List ℕ) (front later flushed : Fronting R) (driver : Own) (script : Scripted) (lines : List Line) (old answers : List Answer) → ((st : Own) → stands rail st → st ≡ start_of script) → memory ≡ first_bytes script → front ≡ new_front rail bytes → lines ≡ script.lines → old ≡ [] → RunsLines (StandsFor stands OwnSteps front) OwnSteps memory lines (StandsFor stands OwnSteps later) old answers → StandsForNoMore (StandsFor stands OwnSteps later) (StandsFor stands OwnSteps flushed) → flushed.calls ≡ [] → back ≡ flushed.rail → stands back driver → (driver ≡ final_own script) × (answers ≡ script_answers script)
 unfolding final_own script_answers
-run_is_direct {R} stands rail back memory bytes front later flushed driver script lines old answers only is_new same_lines none run flush none_open is_back ends =
+run_is_direct {R} stands rail back memory bytes front later flushed driver script lines old answers only at_start is_new same_lines none run flush none_open is_back ends =
     let P : Fronting R → Type 0 = λ f. RunsLines (StandsFor stands OwnSteps f) OwnSteps memory lines (StandsFor stands OwnSteps later) old answers in
     let Q : List Line → Type 0 = λ ls. RunsLines (StandsFor stands OwnSteps (new_front rail bytes)) OwnSteps memory ls (StandsFor stands OwnSteps later) old answers in
     let U : List Answer → Type 0 = λ as1. RunsLines (StandsFor stands OwnSteps (new_front rail bytes)) OwnSteps memory script.lines (StandsFor stands OwnSteps later) as1 answers in
     let V : R → Type 0 = λ r. stands r driver in
-    run_from_new stands rail memory bytes (first_own script.width script.height) driver later flushed script.lines answers only (subst U none (subst Q same_lines (subst P is_new run))) flush none_open (subst V is_back ends)
+    let run_here = run_from_new stands rail memory bytes (start_of script) driver later flushed script.lines answers only (subst U none (subst Q same_lines (subst P is_new run))) flush none_open (subst V is_back ends) in (
+      run_here.0 ∙ ap (λ (m : List ℕ). own_after_lines m (start_of script) script.lines) at_start,
+      run_here.1 ∙ ap (λ (m : List ℕ). answers_of m (start_of script) script.lines) at_start,
+    )
 
 -- the image of the last context is that of the script's end
-pub image_is : (width height : ℕ) (pixels : List (List ℕ)) (own end_own : Own) (image : List ℕ) → image ≡ ppm_of width height pixels → width ≡ own.width → height ≡ own.height → pixels ≡ own.pixels → own ≡ end_own → image ≡ frame_of end_own
+pub image_is : (width height : ℕ) (pixels : List (List ℕ)) (frame end_frame : FrameView) (image : List ℕ) → image ≡ ppm_of width height pixels → width ≡ frame.width → height ≡ frame.height → pixels ≡ frame.pixels → frame ≡ end_frame → image ≡ frame_of end_frame
 unfolding frame_of
-image_is width height pixels own end_own image is_image same_width same_height same_pixels at_end =
-    let here : image ≡ ppm_of own.width own.height own.pixels = cc in
-    here ∙ ap (λ (o : Own). ppm_of o.width o.height o.pixels) at_end
+image_is width height pixels frame end_frame image is_image same_width same_height same_pixels at_end =
+    let here : image ≡ ppm_of frame.width frame.height frame.pixels = cc in
+    here ∙ ap (λ (f : FrameView). ppm_of f.width f.height f.pixels) at_end
 
 -- the report of the answers and the counts is that of the script
 pub report_is : (size : ℕ) (script : Scripted) (given answers : List Answer) (tally numbers : Tally) (text : List ℕ) → text ≡ report_text given tally → given ≡ answers → answers ≡ script_answers script → tally ≡ numbers → numbers ≡ tally_of size (calls_of script.lines) → text ≡ report_of size script

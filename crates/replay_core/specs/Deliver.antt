@@ -1,5 +1,5 @@
 -- What putting images and writing a report leaves, for each status; own.
-use Rattle.std.specs.Prelude.{◌≡◌, ◌⊎◌, ℕ, List, [], Option, take}
+use Rattle.std.specs.Prelude.{◌≡◌, ◌⊎◌, ℕ, List, Option}
 use Rattle.gl_outside.specs.Moved.{Adds, AddsPart}
 use Rattle.replay_core.specs.declared.status.Status.{Status}
 use Rattle.replay_core.specs.declared.status.Status.TheVariants.{Ok as Done, BadWords, ReadFault, BadScript, ShelfFault, WriteFault, NoMemory}

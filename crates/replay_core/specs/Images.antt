@@ -3,7 +3,7 @@ use Rattle.std.specs.Prelude.{ℕ, zero, suc, ◌*◌, List, [], ◌∷◌, ◌+
 use Rattle.std.specs.Fmt.{decimal}
 use Rattle.std.specs.List.{flat_map}
 use Rattle.replay_core.specs.Script.{Scripted}
-use Rattle.replay_core.specs.Own.{Own}
+use Rattle.soft_driver.specs.Frame.{FrameView}
 use Rattle.replay_core.specs.Direct.{final_own}
 
 -- the lowest so many rows of this width, the highest first; own
@@ -27,10 +27,10 @@ ppm_of width height pixels = ppm_head width height ++ colours_of (rows_from_top 
 abbrev pub frame_name : List ℕ
 frame_name = codes "frame-0.ppm"
 
--- the image of a context's frame; own
-unfoldable pub frame_of : Own → List ℕ
-frame_of own = ppm_of own.width own.height own.pixels
+-- the image of a frame; own
+unfoldable pub frame_of : FrameView → List ℕ
+frame_of frame = ppm_of frame.width frame.height frame.pixels
 
 -- the images of a script: its frame; own
 unfoldable pub images_of : Scripted → List (List ℕ × List ℕ)
-images_of script = (frame_name, frame_of (final_own script)) ∷ []
+images_of script = (frame_name, frame_of (final_own script).frame) ∷ []

@@ -3,10 +3,9 @@ pub mod Direct
 pub mod Images
 pub mod Lines
 pub mod Outcome
-pub mod Own
 pub mod Report
+pub mod Journals
 pub mod Script
-pub mod Soft
 pub mod Status
 pub mod Words
 pub use Rattle.gl_words.specs.Call

@@ -1,6 +1,5 @@
 -- What lines lead to, over any driver's relation, and how they are counted; own.
-use Rattle.std.specs.Prelude.{◌≡◌, ℕ, ◌+◌, ◌*◌, ◌^◌, ◌<◌, ◌≤◌, List, [], ◌∷◌, ◌++◌, length, Option}
-use Rattle.gl_words.specs.declared.call.Call.{Call}
+use Rattle.std.specs.Prelude.{◌≡◌, ℕ, ◌+◌, ◌^◌, ◌<◌, ◌≤◌, List, [], ◌∷◌, ◌++◌, length, Option}
 use Rattle.batch_pack.specs.declared.class.Class.TheVariants.{Answer as AnswerClass, Sync, Defer}
 use Rattle.batch_pack.specs.Cutting.{Issued, batch_unless_empty, batches_from, count_of}
 use Rattle.driver_trait.specs.Driver.{Steps}

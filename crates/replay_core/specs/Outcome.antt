@@ -1,6 +1,5 @@
 -- What stands after a run, for each status; own. The objects of the outside are seen as what they tell, before and after.
-use Rattle.std.specs.Prelude.{◌≡◌, ℕ, ◌+◌, ◌≤◌, ◌<◌, ◌⊎◌, List, [], length, take, Option, Result, Ok, Err}
-use Rattle.gl_outside.specs.Faults.{Rose}
+use Rattle.std.specs.Prelude.{◌≡◌, ℕ, ◌+◌, ◌≤◌, ◌<◌, ◌⊎◌, List, length, take, Option, Ok, Err}
 use Rattle.gl_outside.specs.Moved.{Takes, TakesAtMost, Adds, AddsPart, IsAtEnd}
 use Rattle.script_reader.specs.declared.error.ScriptError.{ScriptError}
 use Rattle.script_reader.specs.declared.script.Script.{Script}
@@ -8,7 +7,9 @@ use Rattle.script_reader.specs.Grammar.{script_of}
 use Rattle.replay_core.specs.declared.words.Command.{Command}
 use Rattle.replay_core.specs.Script.{seen_script}
 use Rattle.replay_core.specs.Report.{report_for}
+use Rattle.batch_pack.specs.Spelling.{Spelled}
 use Rattle.replay_core.specs.Images.{images_of}
+use Rattle.replay_core.specs.Journals.{batches_for, Journals}
 use Rattle.replay_core.specs.Deliver.{LeavesBoth}
 
 -- the most bytes of a script; own
@@ -30,29 +31,32 @@ pub record ReadsNoScript (left_before left_after : Option (List ℕ)) (error : S
   pub enough : IsAtEnd left_after ⊎ (length bytes ≡ most_bytes + 1)
   pub is_refused : script_of bytes ≡ Err error
 
--- all images were put and the report was written, byte for byte those of the direct machine; own
-pub record Replays (command : Command) (left_before left_after held_before held_after : Option (List ℕ)) (list_before list_after : Option (List (List ℕ × List ℕ))) : Type 0 where
+-- all images were put and the report was written, byte for byte those of the direct machine, and the batches of its calls were handed over; own
+pub record Replays (command : Command) (left_before left_after held_before held_after : Option (List ℕ)) (list_before list_after : Option (List (List ℕ × List ℕ))) (journal_before journal_after : ℕ → Option (List (List Spelled))) : Type 0 where
   pub script : Script
   pub read : ReadsScript left_before left_after script
   pub written : Adds held_before held_after (report_for command (seen_script script))
   pub put : Adds list_before list_after (images_of (seen_script script))
+  pub handed_over : Journals (batches_for command (seen_script script)) journal_before journal_after
 
 -- the first images were put, as many as are stored, and one more failed; own
-pub record PutsSome (left_before left_after : Option (List ℕ)) (list_before list_after : Option (List (List ℕ × List ℕ))) (stored : ℕ) : Type 0 where
+pub record PutsSome (command : Command) (left_before left_after : Option (List ℕ)) (list_before list_after : Option (List (List ℕ × List ℕ))) (journal_before journal_after : ℕ → Option (List (List Spelled))) (stored : ℕ) : Type 0 where
   pub script : Script
   pub read : ReadsScript left_before left_after script
   pub fewer : stored < length (images_of (seen_script script))
   pub put : Adds list_before list_after (take stored (images_of (seen_script script)))
+  pub handed_over : Journals (batches_for command (seen_script script)) journal_before journal_after
 
 -- all images were put, and a beginning of the report was written; own
-pub record WritesSome (command : Command) (left_before left_after held_before held_after : Option (List ℕ)) (list_before list_after : Option (List (List ℕ × List ℕ))) : Type 0 where
+pub record WritesSome (command : Command) (left_before left_after held_before held_after : Option (List ℕ)) (list_before list_after : Option (List (List ℕ × List ℕ))) (journal_before journal_after : ℕ → Option (List (List Spelled))) : Type 0 where
   pub script : Script
   pub read : ReadsScript left_before left_after script
   pub written : AddsPart held_before held_after (report_for command (seen_script script))
   pub put : Adds list_before list_after (images_of (seen_script script))
+  pub handed_over : Journals (batches_for command (seen_script script)) journal_before journal_after
 
 -- nothing was put or written, or all images were put, and a beginning of the report written; no more was read than may be; own
-abbrev pub StopsAnywhere : Command → Option (List ℕ) → Option (List ℕ) → Option (List ℕ) → Option (List ℕ) → Option (List (List ℕ × List ℕ)) → Option (List (List ℕ × List ℕ)) → Type 0
-StopsAnywhere command left_before left_after held_before held_after list_before list_after =
+abbrev pub StopsAnywhere : Command → Option (List ℕ) → Option (List ℕ) → Option (List ℕ) → Option (List ℕ) → Option (List (List ℕ × List ℕ)) → Option (List (List ℕ × List ℕ)) → (ℕ → Option (List (List Spelled))) → (ℕ → Option (List (List Spelled))) → Type 0
+StopsAnywhere command left_before left_after held_before held_after list_before list_after journal_before journal_after =
     (LeavesBoth held_before held_after list_before list_after × TakesAtMost (most_bytes + 1) left_before left_after)
-    ⊎ WritesSome command left_before left_after held_before held_after list_before list_after
+    ⊎ WritesSome command left_before left_after held_before held_after list_before list_after journal_before journal_after

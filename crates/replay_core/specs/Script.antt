@@ -1,6 +1,6 @@
 -- A script as data for the direct machine: one context, and its calls, each with the number of its line; own.
 use Rattle.std.specs.Prelude.{◌≡◌, ℕ, ◌≤◌, List, [], ◌∷◌, map}
-use Rattle.replay_core.specs.Own.{AreSides}
+use Rattle.gl_state.specs.Private.{AreSides}
 use Rattle.gl_words.specs.declared.call.Call.{Call}
 use Rattle.batch_pack.specs.Cutting.{Issued, issued}
 use Rattle.script_reader.specs.declared.script.Act.{Act}
@@ -21,10 +21,11 @@ call_in (Gl call) = call
 abbrev pub call_on : Line → Call
 call_on line = call_in line.act
 
--- a script: the sides of its context in pixels, and its lines in order; own
+-- a script: the sides of its context in pixels, the size of its client memory in bytes, and its lines in order; own
 pub record Scripted : Type 0 where
   pub width : ℕ
   pub height : ℕ
+  pub memory : ℕ
   pub lines : List Line
 
 -- the first of the contexts; a script has one
@@ -34,7 +35,7 @@ first_context (context ∷ contexts) = context
 
 -- a script as its first context and its lines; own
 abbrev pub seen_script : Script → Scripted
-seen_script script = record { width = (first_context script.contexts).width; height = (first_context script.contexts).height; lines = script.lines }
+seen_script script = record { width = (first_context script.contexts).width; height = (first_context script.contexts).height; memory = (first_context script.contexts).memory; lines = script.lines }
 
 -- the calls of lines as they are issued, in order; own
 abbrev pub calls_of : List Line → List Issued

@@ -3,7 +3,6 @@ use Rattle.std.specs.Prelude.{ℕ, List, ◌++◌, codes}
 use Rattle.std.specs.Fmt.{decimal}
 use Rattle.replay_core.specs.declared.status.Status.{Status}
 use Rattle.replay_core.specs.declared.status.Status.TheVariants.{Ok, BadWords, ReadFault, BadScript, ShelfFault, WriteFault, NoMemory}
-use Rattle.script_reader.specs.declared.error.ScriptError.{ScriptError}
 use Rattle.script_reader.specs.declared.error.Limit.{Limit}
 use Rattle.script_reader.specs.declared.error.Limit.TheVariants.{Contexts, Lines, ImageBytes, UploadBytes, SourceBytes}
 use Rattle.script_reader.specs.declared.error.ScriptFault.{ScriptFault}

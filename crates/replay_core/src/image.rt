@@ -2,7 +2,7 @@
 
 ghost use Rattle.std.specs.Prelude.{◌≡◌, ◌+◌, ◌*◌, ◌≤◌, ◌<◌, ℕ, List, ◌++◌, length, take, drop, string_bytes, IfOk, OnOk};
 ghost use Rattle.std.specs.List.{flat_map};
-ghost use Rattle.replay_core.specs.Own.{AreSides};
+ghost use Rattle.gl_state.specs.Private.{AreSides};
 ghost use Rattle.replay_core.specs.Images.{colours_of, ppm_head, ppm_of};
 
 use std::alloc::{AllocError as NoMemory, Global};

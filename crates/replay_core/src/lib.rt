@@ -1,14 +1,11 @@
 //! Replays scripts: the reader, the driver, the report and the images, and the top call with its theorem.
 #![tactic(auto)]
 
-mod colour;
 mod deliver;
-mod frame;
 mod image;
 mod lines;
 mod plain;
 mod run;
-mod soft;
 mod status;
 #[cfg(test)]
 mod tests;
@@ -19,7 +16,6 @@ mod words;
 pub use image::ppm;
 pub use lines::{Answer, run_lines};
 pub use plain::{DirectRun, direct, plain_report, plain_tally};
-pub use soft::Soft;
 pub use status::{Status, exit_code};
 pub use text::{Text, direct_report, report};
 pub use top::replay_alone;

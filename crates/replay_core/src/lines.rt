@@ -4,7 +4,7 @@ ghost use Rattle.std.specs.Prelude.{◌≡◌, ℕ, ◌+◌, ◌*◌, ◌^◌, �
 ghost use Rattle.driver_trait.specs.Reply.{replied};
 ghost use Rattle.gl_front.specs.Front.{StandsFor};
 ghost use Rattle.replay_core.specs.Direct.{told_numbers, told_of};
-ghost use Rattle.replay_core.specs.Own.{AreSides};
+ghost use Rattle.gl_state.specs.Private.{AreSides};
 ghost use Rattle.replay_core.specs.Script.{IsOneContext, call_on, calls_of, first_context};
 ghost use Rattle.replay_core.specs.Lines.{RunsLines, CountsCalls, TellsCalls, AllLow, AllRiseBy};
 

@@ -7,16 +7,17 @@ ghost use Rattle.batch_pack.specs.Class.{class_of};
 ghost use Rattle.batch_pack.specs.Spelling.{Spelled, slots_of};
 ghost use Rattle.batch_pack.specs.Cutting.{batch_unless_empty, batches_from, ended_at, ended_by, is_class, issued, open_after, open_by, tally_of};
 ghost use Rattle.replay_core.specs.Script.{IsOneContext, call_on, calls_of, seen_script, most_lines};
-ghost use Rattle.replay_core.specs.Direct.{final_own, script_answers};
+ghost use Rattle.replay_core.specs.Direct.{answers_of, final_own, own_after_lines, script_answers};
 ghost use Rattle.replay_core.specs.Report.{counted, report_of};
 
 use crate::lines::{Answer, call_of_line, note, only_context};
-use crate::soft::Soft;
 use crate::text::{Text, report};
 use batch_pack::{Class, call_class, sends_batch};
 use gl_front::Counts;
+use gl_memory::ClientMemory;
 use gl_words::{Call, arg_count};
 use script_reader::{Line, Script};
+use soft_driver::Soft;
 use std::alloc::{AllocError as NoMemory, Global};
 
 /// What the direct machine leaves: the answers in order, and the context at the end; own.
@@ -35,14 +36,29 @@ pub fn direct(alloc: Global, script: &Script) -> Result<DirectRun, NoMemory>
     ensures soft { IfOk result (λ done. done.soft ≡ final_own (seen_script script.now)) }
 {
     let context = only_context(script);
-    let mut soft = Soft::new(alloc, context.width, context.height)?;
+    let memory = ClientMemory::new(alloc, context.memory)?;
+    let mut soft = Soft::new(alloc, 0, context.width, context.height)?;
     let mut answers = Vec::new(alloc);
-    let lines = script.lines.as_slice();
-    for line in lines {
-        let reply = soft.carry_out(call_of_line(line));
-        note(&mut answers, line, &reply)?;
-    }
+    carry_out_lines(&mut soft, &memory, script.lines.as_slice(), &mut answers)?;
     Ok(DirectRun { answers, soft })
+}
+
+/// Carries the calls of lines out on client memory, and adds their answers; own.
+fn carry_out_lines(
+    soft: &mut Soft,
+    memory: &ClientMemory,
+    lines: &[Line],
+    answers: &mut Vec<Answer>,
+) -> Result<(), NoMemory>
+    ensures answers { OnOk result
+        (answers.new.items ≡ answers.old.items ++ answers_of memory.now soft.old lines.now) }
+    ensures soft { OnOk result (soft.new ≡ own_after_lines memory.now soft.old lines.now) }
+{
+    for line in lines {
+        let reply = soft.carry_out(call_of_line(line), memory)?;
+        note(answers, line, &reply)?;
+    }
+    Ok(())
 }
 
 /// The report of a script, with batches of so many slots; own.

@@ -1,14 +1,11 @@
 //! What no clause says: that the calls succeed, and the bytes that another program gives.
 
 use crate::lines::note;
-use crate::{Soft, Status, direct, exit_code, plain_report, ppm};
-use driver_trait::{Driver, Numbers, Reply};
-use gl_memory::ClientMemory;
+use crate::{Status, direct, exit_code, plain_report, ppm};
+use driver_trait::{Numbers, Reply};
 use gl_words::Call;
 use script_reader::{Act, Limit, Line, ScriptError, ScriptFault, read};
-use std::alloc::{AllocError, Global};
 use std::test::Fail;
-use std::thread::Threads;
 
 // The bytes are those of a plain program by other hands.
 #[test]
@@ -45,8 +42,8 @@ fn a_script_gives_its_report_and_its_image(rt: HostRuntime) -> Result<(), Fail> 
         };
         let told = plain_report(rt.alloc(), *size, &script)?;
         assert_eq!(rt; told.bytes(), report.as_bytes());
-        let soft = direct(rt.alloc(), &script)?.soft;
-        let image = ppm(rt.alloc(), soft.width(), soft.height(), soft.pixels())?;
+        let frame = direct(rt.alloc(), &script)?.soft.into_parts();
+        let image = ppm(rt.alloc(), frame.width(), frame.height(), frame.pixels())?;
         assert_eq!(rt; image.as_slice(), *bytes);
     }
     Ok(())
@@ -95,34 +92,6 @@ fn each_status_has_its_number_and_its_text(rt: HostRuntime) -> Result<(), Fail> 
         assert_eq!(rt; exit_code(status), *code);
         let line = format!(in rt.alloc(); "{status}")?;
         assert_eq!(rt; line.as_str(), *text);
-    }
-    Ok(())
-}
-
-/// The number that a driver replies to a call on memory, where it replies one.
-fn number_replied<T: Threads + Sync, D: Driver>(
-    rt: &T,
-    alloc: Global,
-    driver: &mut D,
-    call: &Call,
-) -> Result<Option<i64>, AllocError> {
-    let memory = ClientMemory::new(alloc, 0)?;
-    Ok(match driver.call(rt, call, &memory)? {
-        Reply::One(number) => Some(number),
-        Reply::Nothing | Reply::Numbers(_) | Reply::Bytes(_) => None,
-    })
-}
-
-#[test]
-fn the_driver_is_called_through_its_trait(rt: HostRuntime) -> Result<(), Fail> {
-    let mut soft = Soft::new(rt.alloc(), 1, 1)?;
-    let calls = [
-        (Call::Clear { mask: 1 }, None),
-        (Call::GetError, Some(1281)),
-        (Call::GetError, Some(0)),
-    ];
-    for (call, number) in &calls {
-        assert_eq!(rt; number_replied(&rt, rt.alloc(), &mut soft, call)?, *number);
     }
     Ok(())
 }

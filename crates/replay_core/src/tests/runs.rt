@@ -1,10 +1,15 @@
 //! Whole runs of the top call over objects in memory.
 
+ghost use Rattle.std.specs.Prelude.{◌≡◌, ◌<◌};
+ghost use Rattle.batch_rail.specs.declared.maker.RailKind.TheVariants.{Inline};
+
 use crate::{Status, rail_of, replay_alone};
-use batch_rail::{InlineMaker, RailKind};
+use batch_rail::{InlineMaker, JournalMaker, RailKind, RailMaker};
 use gl_outside::{MemoryShelf, MemorySink, MemorySource};
 use script_reader::{Limit, ScriptError, ScriptFault};
+use soft_driver::Soft;
 use std::alloc::{AllocError, Global};
+use std::process::Abort;
 use std::test::Fail;
 use std::thread::Threads;
 
@@ -53,6 +58,21 @@ fn replay<T: Threads + Sync>(
     text: &[u8],
     outside: Outside,
 ) -> Result<Left, AllocError> {
+    let mut rails = InlineMaker::new();
+    replay_over(rt, alloc, words, text, outside, &mut rails)
+}
+
+/// Replays over any maker whose rails are inline.
+fn replay_over<T: Threads + Sync, R: RailMaker<Soft>>(
+    rt: &T,
+    alloc: Global,
+    words: &[&str],
+    text: &[u8],
+    outside: Outside,
+    rails: &mut R,
+) -> Result<Left, AllocError>
+    requires { R.kind_of rails.old ≡ Inline }
+{
     let mut all = Vec::new(alloc);
     for word in words {
         all.push(String::from_str(alloc, word)?)?;
@@ -61,16 +81,7 @@ fn replay<T: Threads + Sync>(
     let mut source = MemorySource::new(Vec::from_slice(alloc, text)?, outside.source, most);
     let mut sink = MemorySink::new(alloc, outside.sink, most);
     let mut shelf = MemoryShelf::new(alloc, outside.shelf);
-    let mut rails = InlineMaker::new();
-    let status = replay_alone(
-        rt,
-        alloc,
-        &all,
-        &mut source,
-        &mut sink,
-        &mut shelf,
-        &mut rails,
-    );
+    let status = replay_alone(rt, alloc, &all, &mut source, &mut sink, &mut shelf, rails);
     Ok(Left {
         status,
         sink,
@@ -109,6 +120,10 @@ fn runs_report_answers_and_counts(rt: HostRuntime) -> Result<(), Fail> {
         (
             "glscript 1\ncontext 0 1 1 0\n0 Clear 1\n0 GetError\n0 GetError\nend\n",
             "glreport 1\n4 0 GetError 1281\n5 0 GetError 0\ncounts 0 1 2 0 1\nimages 1\nend\n",
+        ),
+        (
+            "glscript 1\ncontext 0 1 1 0\n0 PopMatrix\n0 MatrixMode PROJECTION\n0 PushMatrix\n0 PushMatrix\n0 GetError\n0 GetError\nend\n",
+            "glreport 1\n7 0 GetError 1284\n8 0 GetError 0\ncounts 0 4 2 0 1\nimages 1\nend\n",
         ),
     ];
     for (text, report) in &rows {
@@ -394,4 +409,59 @@ fn the_words_name_the_rail(rt: HostRuntime) -> Result<(), Fail> {
     }
     assert_eq!(rt; rail_of(&words), Some(RailKind::Inline));
     Ok(())
+}
+
+const PARTED: &str =
+    "glscript 1\ncontext 0 1 1 0\n0 Clear 0x4000\n0 Flush\n0 MatrixMode PROJECTION\n0 PushMatrix\n0 GetError\n0 Rotatex -65536 0 0 65536\n0 Frustumx -1 1 -1 1 1 2\n0 LoadIdentity\n0 Viewport -1 0 5 5\nend\n";
+
+// The slots of each batch are those of another program.
+#[test]
+fn a_run_hands_over_the_batches_of_its_calls(rt: HostRuntime) -> Result<(), Fail> {
+    let batches: [&[u64]; 4] = [
+        &[0x2_0008, 0x4000, 0x1_001C],
+        &[0x2_002A, 0x1701, 0x1_0032],
+        &[
+            0x5_0034,
+            0xFFFF_FFFF_FFFF_0000,
+            0,
+            0,
+            0x1_0000,
+            0x7_001E,
+            0xFFFF_FFFF_FFFF_FFFF,
+            1,
+            0xFFFF_FFFF_FFFF_FFFF,
+            1,
+            1,
+            2,
+            0x1_0028,
+        ],
+        &[0x5_0040, 0xFFFF_FFFF_FFFF_FFFF, 0, 5, 5],
+    ];
+    let words = ["run", "--rail", "inline", "--batch", "16"];
+    let mut rails = JournalMaker::new(rt.alloc(), RailKind::Inline, 24)?;
+    let sure = Outside::sure(rt.alloc(), 4096);
+    let left = replay_over(&rt, rt.alloc(), &words, PARTED.as_bytes(), sure, &mut rails)?;
+    assert_eq!(rt; left.status, Status::Ok);
+    assert_eq!(rt;
+        left.sink.bytes(),
+        b"glreport 1\n7 0 GetError 0\ncounts 0 8 1 0 4\nimages 1\nend\n".as_slice()
+    );
+    tells(&rt, &rails, 0, &batches);
+    tells(&rt, &rails, 1, &[]);
+    Ok(())
+}
+
+/// A context has these batches, and no other.
+fn tells(rt: &impl Abort, rails: &JournalMaker, context: u32, batches: &[&[u64]])
+    requires { context < 4 }
+{
+    match rails.journal(context) {
+        Some(mut told) => {
+            for slots in batches {
+                assert_eq!(rt; told.next(), Some(*slots));
+            }
+            assert!(rt; told.next().is_none());
+        }
+        None => panic!(rt; "not told"),
+    }
 }

@@ -1,8 +1,9 @@
-use Rattle.std.proofs.Common.{◌≡◌, ℕ, ◌<◌, List, length, Option, Some, Ok, Err, IfSome, sym, ap, subst, ◌∙◌, inl}
+use Rattle.std.proofs.Common.{◌≡◌, ℕ, ◌<◌, List, length, Option, Ok, Err, IfSome, sym, ap, subst, ◌∙◌, inl}
 use Rattle.gl_outside.specs.Moved.{Takes}
 use Rattle.script_reader.specs.Grammar.{script_of}
 use Rattle.replay_core.specs.Script.{seen_script}
 use Rattle.replay_core.specs.Report.{report_for}
+use Rattle.replay_core.proofs.JournalLemmas.{journals_for}
 use Rattle.replay_core.proofs.Outcomes.{reads_script, refused_is_read, accepted_is_read, replays, puts_some, writes_some, stops_anywhere}
 use Rattle.replay_core.proofs.top.replay_alone.Goals as goal
 
@@ -30,28 +31,33 @@ returns-in-Ok-run_command-clause-ok g c = λ asked words e.
     let is_script = ap (λ bs. script_of bs) (sym c.deref.ensures.value) ∙ c.in-Ok-read.ensures.found in
     let read = reads_script _ _ c.in-Ok.bytes.items c.in-Ok-read.script c.in-Ok.ensures.ok c.in-Ok.ensures.end is_script in
     let same : c.in-Some.asked ≡ asked = cc in
-    replays asked c.deliver.result _ _ _ _ _ _ c.in-Ok-read.script c.deref-in-Ok-run_command.result.now c.bytes.result.now e read (c.deref-in-Ok-run_command.ensures.value ∙ c.in-Ok-run_command.ensures.image) (c.bytes.ensures ∙ (c.in-Ok-run_command.ensures.report ∙ ap (λ k. report_for k (seen_script c.in-Ok-read.script)) same)) c.deliver.ensures.delivers
+    let handed_over = journals_for c.in-Some.asked asked _ _ _ same c.in-Ok-run_command.ensures.journal in
+    replays asked c.deliver.result _ _ _ _ _ _ _ _ c.in-Ok-read.script c.deref-in-Ok-run_command.result.now c.bytes.result.now e read handed_over (c.deref-in-Ok-run_command.ensures.value ∙ c.in-Ok-run_command.ensures.image) (c.bytes.ensures ∙ (c.in-Ok-run_command.ensures.report ∙ ap (λ k. report_for k (seen_script c.in-Ok-read.script)) same)) c.deliver.ensures.delivers
 
 pub returns-in-Ok-run_command-clause-shelf_fault : goal.returns-in-Ok-run_command-clause-shelf_fault
-returns-in-Ok-run_command-clause-shelf_fault g c = λ stored e.
+returns-in-Ok-run_command-clause-shelf_fault g c = λ asked words stored e.
     let is_script = ap (λ bs. script_of bs) (sym c.deref.ensures.value) ∙ c.in-Ok-read.ensures.found in
     let read = reads_script _ _ c.in-Ok.bytes.items c.in-Ok-read.script c.in-Ok.ensures.ok c.in-Ok.ensures.end is_script in
+    let same : c.in-Some.asked ≡ asked = cc in
+    let handed_over = journals_for c.in-Some.asked asked _ _ _ same c.in-Ok-run_command.ensures.journal in
     let fault = c.deliver.ensures.shelf_fault stored e in
-    (fault.0, puts_some c.deliver.result _ _ _ _ _ _ c.in-Ok-read.script c.deref-in-Ok-run_command.result.now c.bytes.result.now stored e read c.deliver.ensures.delivers, fault.1)
+    (fault.0, puts_some asked c.deliver.result _ _ _ _ _ _ _ _ c.in-Ok-read.script c.deref-in-Ok-run_command.result.now c.bytes.result.now stored e read handed_over c.deliver.ensures.delivers, fault.1)
 
 pub returns-in-Ok-run_command-clause-write_fault : goal.returns-in-Ok-run_command-clause-write_fault
 returns-in-Ok-run_command-clause-write_fault g c = λ asked words e.
     let is_script = ap (λ bs. script_of bs) (sym c.deref.ensures.value) ∙ c.in-Ok-read.ensures.found in
     let read = reads_script _ _ c.in-Ok.bytes.items c.in-Ok-read.script c.in-Ok.ensures.ok c.in-Ok.ensures.end is_script in
     let same : c.in-Some.asked ≡ asked = cc in
-    (c.deliver.ensures.write_fault e, writes_some asked c.deliver.result _ _ _ _ _ _ c.in-Ok-read.script c.deref-in-Ok-run_command.result.now c.bytes.result.now e read (c.deref-in-Ok-run_command.ensures.value ∙ c.in-Ok-run_command.ensures.image) (c.bytes.ensures ∙ (c.in-Ok-run_command.ensures.report ∙ ap (λ k. report_for k (seen_script c.in-Ok-read.script)) same)) c.deliver.ensures.delivers)
+    let handed_over = journals_for c.in-Some.asked asked _ _ _ same c.in-Ok-run_command.ensures.journal in
+    (c.deliver.ensures.write_fault e, writes_some asked c.deliver.result _ _ _ _ _ _ _ _ c.in-Ok-read.script c.deref-in-Ok-run_command.result.now c.bytes.result.now e read handed_over (c.deref-in-Ok-run_command.ensures.value ∙ c.in-Ok-run_command.ensures.image) (c.bytes.ensures ∙ (c.in-Ok-run_command.ensures.report ∙ ap (λ k. report_for k (seen_script c.in-Ok-read.script)) same)) c.deliver.ensures.delivers)
 
 pub returns-in-Ok-run_command-clause-no_memory : goal.returns-in-Ok-run_command-clause-no_memory
 returns-in-Ok-run_command-clause-no_memory g c = λ asked words e.
     let is_script = ap (λ bs. script_of bs) (sym c.deref.ensures.value) ∙ c.in-Ok-read.ensures.found in
     let read = reads_script _ _ c.in-Ok.bytes.items c.in-Ok-read.script c.in-Ok.ensures.ok c.in-Ok.ensures.end is_script in
     let same : c.in-Some.asked ≡ asked = cc in
-    stops_anywhere asked c.deliver.result _ _ _ _ _ _ c.in-Ok-read.script c.deref-in-Ok-run_command.result.now c.bytes.result.now e read (c.deref-in-Ok-run_command.ensures.value ∙ c.in-Ok-run_command.ensures.image) (c.bytes.ensures ∙ (c.in-Ok-run_command.ensures.report ∙ ap (λ k. report_for k (seen_script c.in-Ok-read.script)) same)) c.deliver.ensures.delivers
+    let handed_over = journals_for c.in-Some.asked asked _ _ _ same c.in-Ok-run_command.ensures.journal in
+    stops_anywhere asked c.deliver.result _ _ _ _ _ _ _ _ c.in-Ok-read.script c.deref-in-Ok-run_command.result.now c.bytes.result.now e read handed_over (c.deref-in-Ok-run_command.ensures.value ∙ c.in-Ok-run_command.ensures.image) (c.bytes.ensures ∙ (c.in-Ok-run_command.ensures.report ∙ ap (λ k. report_for k (seen_script c.in-Ok-read.script)) same)) c.deliver.ensures.delivers
 
 pub returns-in-Ok-run_command-clause-refused : goal.returns-in-Ok-run_command-clause-refused
 returns-in-Ok-run_command-clause-refused g c = λ left asked error e words refused sound.

@@ -1,6 +1,0 @@
-use Rattle.replay_core.specs.Words.{texts_of}
-use Rattle.replay_core.proofs.Rails.{asks_inline}
-use Rattle.replay_core.proofs.tests.runs.replay.Goals as goal
-
-pub replay_alone-status-requires-clause-kind : goal.replay_alone-status-requires-clause-kind
-replay_alone-status-requires-clause-kind g c κs live = λ asked e. asks_inline (texts_of c.deref.result.now) asked e
