@@ -1,95 +1,13 @@
 -- The table of calls read backwards and forwards, row by row.
-use Rattle.std.proofs.Common.{◌≡◌, ℕ, ℤ, pos, negsuc, Bool, true, false, cond, eqb, nat_lt, List, [], ◌∷◌, length, refl, sym, ap, ◌∙◌, arith, subst, Some, None, Option, option_and_then}
-use Rattle.std.specs.Prelude.{FitsSigned}
-use Rattle.std.specs.Int.{FitsUnsigned, w32}
-use Rattle.std.specs.Option.{option_map}
-use Rattle.std.proofs.lemmas.Bool.Decides.{nat_tests}
+use Rattle.std.proofs.Common.{◌≡◌, ℕ, ℤ, pos, Bool, true, false, cond, eqb, nat_lt, List, [], ◌∷◌, length, refl, sym, ◌∙◌, Some, Option}
 use Rattle.std.proofs.lemmas.Bool.{eqb-true}
-use Rattle.std.proofs.lemmas.Option.{option_and_then_some}
 use Rattle.gl_words.specs.Call.{id_of, kinds_of, arguments, IsInRange}
-use Rattle.gl_words.specs.CallOf.{call_of, lower_call_of, upper_call_of, argument_count, lower_argument_count, upper_argument_count, unsigned_of, signed_of, one_of, three_of, four_of, six_of, bare_of, CallOfLaw}
+use Rattle.gl_words.specs.CallOf.{call_of, first_call_of, second_call_of, third_call_of, fourth_call_of, argument_count, first_argument_count, second_argument_count, third_argument_count, fourth_argument_count, CallOfLaw}
+use Rattle.gl_words.specs.Making.{made_of}
+use Rattle.gl_words.proofs.Makings.{IsRow, row_is, made_of-again}
+use Rattle.gl_words.specs.declared.shape.ArgKind.TheVariants.{Enum, Unsigned, Int, Fixed, Pointer}
 use Rattle.gl_words.specs.declared.call.Call.{Call}
-use Rattle.gl_words.specs.declared.call.Call.TheVariants.{Clear, ClearColorx, Finish, Flush, Frustumx, GetError, LoadIdentity, MatrixMode, Orthox, PopMatrix, PushMatrix, Rotatex, Scalex, Translatex, Viewport}
-
--- a number without sign that is read back is the integer it was read from, and in range
-pub unsigned_of-is : (z : ℤ) (n : ℕ) → unsigned_of z ≡ Some n → (pos n ≡ z) × FitsUnsigned w32 z
-unsigned_of-is (pos m) n h = (grind (arith, nat_tests), grind (arith, nat_tests))
-unsigned_of-is (negsuc m) n h = absurd (cc)
-
-pub unsigned_of-again : (n : ℕ) → FitsUnsigned w32 (pos n) → unsigned_of (pos n) ≡ Some n
-unsigned_of-again n h = grind (arith, nat_tests)
-
-pub signed_of-is : (z y : ℤ) → signed_of z ≡ Some y → (y ≡ z) × FitsSigned w32 z
-signed_of-is (pos m) n h = (grind (arith, nat_tests), grind (arith, nat_tests))
-signed_of-is (negsuc m) n h = (grind (arith, nat_tests), grind (arith, nat_tests))
-
-pub signed_of-again : (z : ℤ) → FitsSigned w32 z → signed_of z ≡ Some z
-signed_of-again (pos m) h = grind (arith, nat_tests)
-signed_of-again (negsuc m) h = grind (arith, nat_tests)
-
-option_map_some : {A B P : Type 0} (f : A → B) (o : Option A) (y : B) → option_map f o ≡ Some y → ((x : A) → (o ≡ Some x) × (f x ≡ y) → P) → P
-option_map_some f (Some x) y h k = k x (refl, cc)
-option_map_some f None y h k = absurd (cc)
-
--- what comes of a signed number that was read comes of the integer itself, which is in range
-signed_first : {P : Type 0} (f : ℤ → Option Call) (z : ℤ) (call : Call) → option_and_then f (signed_of z) ≡ Some call → (FitsSigned w32 z → f z ≡ Some call → P) → P
-signed_first f z call h k = option_and_then_some f (signed_of z) call h (λ y read later.
-    let is = signed_of-is z y read in k (is.1) (subst (λ (x : ℤ). f x ≡ Some call) (is.0) later))
-
-signed_last : {P : Type 0} (f : ℤ → Call) (z : ℤ) (call : Call) → option_map f (signed_of z) ≡ Some call → (FitsSigned w32 z → f z ≡ call → P) → P
-signed_last f z call h k = option_map_some f (signed_of z) call h (λ y e.
-    let is = signed_of-is z y (e.0) in k (is.1) (subst (λ (x : ℤ). f x ≡ call) (is.0) (e.1)))
-
--- a call is the row of this number with these arguments
-abbrev pub IsRow : ℕ → List ℤ → Call → Type 0
-IsRow id args call = (id_of call ≡ id) × (arguments call ≡ args) × IsInRange call
-
-bare_of-is : (id : ℕ) (bare : Call) (args : List ℤ) (call : Call) → IsRow id [] bare → bare_of bare args ≡ Some call → IsRow id args call
-bare_of-is id bare [] call row h = subst (IsRow id []) (cc) row
-bare_of-is id bare (more ∷ others) call row h = absurd (cc)
-
-one_of-is : (id : ℕ) (f : ℕ → Call) (args : List ℤ) (call : Call) → ((a : ℕ) → FitsUnsigned w32 (pos a) → IsRow id (pos a ∷ []) (f a)) → one_of f args ≡ Some call → IsRow id args call
-one_of-is id f [] call row h = absurd (cc)
-one_of-is id f (z ∷ []) call row h = option_map_some f (unsigned_of z) call h (λ a e.
-    let is = unsigned_of-is z a (e.0) in
-    subst (λ (c : Call). IsRow id (z ∷ []) c) (e.1) (subst (λ (x : ℤ). IsRow id (x ∷ []) (f a)) (is.0) (row a (subst (λ (x : ℤ). FitsUnsigned w32 x) (sym (is.0)) (is.1)))))
-one_of-is id f (z ∷ more ∷ others) call row h = absurd (cc)
-
-three_read : {P : Type 0} (f : ℤ → ℤ → ℤ → Call) (a b c : ℤ) (call : Call) → three_of f (a ∷ b ∷ c ∷ []) ≡ Some call
-    → (FitsSigned w32 a → FitsSigned w32 b → FitsSigned w32 c → f a b c ≡ call → P) → P
-three_read f a b c call h k =
-    signed_first _ a call h (λ in_a h1.
-    signed_first _ b call h1 (λ in_b h2.
-    signed_last _ c call h2 (λ in_c is. k in_a in_b in_c is)))
-
-four_read : {P : Type 0} (f : ℤ → ℤ → ℤ → ℤ → Call) (a b c d : ℤ) (call : Call) → four_of f (a ∷ b ∷ c ∷ d ∷ []) ≡ Some call
-    → (FitsSigned w32 a → FitsSigned w32 b → FitsSigned w32 c → FitsSigned w32 d → f a b c d ≡ call → P) → P
-four_read f a b c d call h k = signed_first _ a call h (λ in_a later. three_read (f a) b c d call later (k in_a))
-
-three_of-is : (id : ℕ) (f : ℤ → ℤ → ℤ → Call) (args : List ℤ) (call : Call)
-    → ((a b c : ℤ) → FitsSigned w32 a → FitsSigned w32 b → FitsSigned w32 c → IsRow id (a ∷ b ∷ c ∷ []) (f a b c))
-    → three_of f args ≡ Some call → IsRow id args call
-three_of-is id f (a ∷ b ∷ c ∷ []) call row h =
-    three_read f a b c call h (λ in_a in_b in_c is. subst (λ (x : Call). IsRow id (a ∷ b ∷ c ∷ []) x) is (row a b c in_a in_b in_c))
-three_of-is id f _ call row h = absurd (cc)
-
-four_of-is : (id : ℕ) (f : ℤ → ℤ → ℤ → ℤ → Call) (args : List ℤ) (call : Call)
-    → ((a b c d : ℤ) → FitsSigned w32 a → FitsSigned w32 b → FitsSigned w32 c → FitsSigned w32 d → IsRow id (a ∷ b ∷ c ∷ d ∷ []) (f a b c d))
-    → four_of f args ≡ Some call → IsRow id args call
-four_of-is id f (a ∷ b ∷ c ∷ d ∷ []) call row h =
-    four_read f a b c d call h (λ in_a in_b in_c in_d is. subst (λ (x : Call). IsRow id (a ∷ b ∷ c ∷ d ∷ []) x) is (row a b c d in_a in_b in_c in_d))
-four_of-is id f _ call row h = absurd (cc)
-
-six_of-is : (id : ℕ) (f : ℤ → ℤ → ℤ → ℤ → ℤ → ℤ → Call) (args : List ℤ) (call : Call)
-    → ((a b c d e g : ℤ) → FitsSigned w32 a → FitsSigned w32 b → FitsSigned w32 c → FitsSigned w32 d → FitsSigned w32 e → FitsSigned w32 g
-    → IsRow id (a ∷ b ∷ c ∷ d ∷ e ∷ g ∷ []) (f a b c d e g))
-    → six_of f args ≡ Some call → IsRow id args call
-six_of-is id f (a ∷ b ∷ c ∷ d ∷ e ∷ g ∷ []) call row h =
-    signed_first _ a call h (λ in_a h1.
-    signed_first _ b call h1 (λ in_b h2.
-    four_read (f a b) c d e g call h2 (λ in_c in_d in_e in_g is.
-    subst (λ (x : Call). IsRow id (a ∷ b ∷ c ∷ d ∷ e ∷ g ∷ []) x) is (row a b c d e g in_a in_b in_c in_d in_e in_g))))
-six_of-is id f _ call row h = absurd (cc)
+use Rattle.gl_words.specs.declared.call.Call.TheVariants.{ActiveTexture, Clear, ClearColorx, ClientActiveTexture, ColorPointer, DisableClientState, EnableClientState, Finish, Flush, Frustumx, GetError, GetFixedv, GetIntegerv, GetPointerv, IsEnabled, LoadIdentity, MatrixMode, NormalPointer, Orthox, PixelStorei, PopMatrix, PushMatrix, ReadPixels, Rotatex, Scalex, TexCoordPointer, Translatex, VertexPointer, Viewport}
 
 -- a test that picks one of two answers, taken apart
 pub by_test : {A P : Type 0} (b : Bool) (x y : Option A) (z : A) → cond b x y ≡ Some z → ((b ≡ true) → x ≡ Some z → P) → (y ≡ Some z → P) → P
@@ -101,151 +19,179 @@ either_answer : {A P : Type 0} (b : Bool) (x y : Option A) (z : A) → cond b x 
 either_answer true x y z h this that = this h
 either_answer false x y z h this that = that h
 
-at_id : (id n : ℕ) (args : List ℤ) (call : Call) → eqb id n ≡ true → IsRow n args call → IsRow id args call
-at_id id n args call e row = subst (λ (k : ℕ). IsRow k args call) (sym (eqb-true id n e)) row
+first_call_of-is : (id : ℕ) (args : List ℤ) (call : Call) → first_call_of id args ≡ Some call → IsRow id args call
+unfolding first_call_of id_of kinds_of arguments
+first_call_of-is id args call h =
+    by_test (eqb id 1) _ _ call h (λ same h. row_is id 1 (Enum ∷ []) ActiveTexture (λ a. (refl, refl, refl)) args call same h) (λ h.
+    by_test (eqb id 8) _ _ call h (λ same h. row_is id 8 (Unsigned ∷ []) Clear (λ a. (refl, refl, refl)) args call same h) (λ h.
+    by_test (eqb id 9) _ _ call h (λ same h. row_is id 9 (Fixed ∷ Fixed ∷ Fixed ∷ Fixed ∷ []) ClearColorx (λ a b c d. (refl, refl, refl)) args call same h) (λ h.
+    by_test (eqb id 11) _ _ call h (λ same h. row_is id 11 (Enum ∷ []) ClientActiveTexture (λ a. (refl, refl, refl)) args call same h) (λ h.
+    by_test (eqb id 14) _ _ call h (λ same h. row_is id 14 (Int ∷ Enum ∷ Int ∷ Pointer ∷ []) ColorPointer (λ a b c d. (refl, refl, refl)) args call same h) (λ h. absurd (cc))))))
 
-row-Clear : (a : ℕ) → FitsUnsigned w32 (pos a) → IsRow 8 (pos a ∷ []) (Clear a)
-unfolding id_of arguments IsInRange kinds_of
-row-Clear a in_a = (refl, refl, (in_a, tt))
+second_call_of-is : (id : ℕ) (args : List ℤ) (call : Call) → second_call_of id args ≡ Some call → IsRow id args call
+unfolding second_call_of id_of kinds_of arguments
+second_call_of-is id args call h =
+    by_test (eqb id 22) _ _ call h (λ same h. row_is id 22 (Enum ∷ []) DisableClientState (λ a. (refl, refl, refl)) args call same h) (λ h.
+    by_test (eqb id 26) _ _ call h (λ same h. row_is id 26 (Enum ∷ []) EnableClientState (λ a. (refl, refl, refl)) args call same h) (λ h.
+    by_test (eqb id 27) _ _ call h (λ same h. row_is id 27 [] Finish (refl, refl, refl) args call same h) (λ h.
+    by_test (eqb id 28) _ _ call h (λ same h. row_is id 28 [] Flush (refl, refl, refl) args call same h) (λ h.
+    by_test (eqb id 30) _ _ call h (λ same h. row_is id 30 (Fixed ∷ Fixed ∷ Fixed ∷ Fixed ∷ Fixed ∷ Fixed ∷ []) Frustumx (λ a b c d e f. (refl, refl, refl)) args call same h) (λ h. absurd (cc))))))
 
-row-ClearColorx : (a b c d : ℤ) → FitsSigned w32 a → FitsSigned w32 b → FitsSigned w32 c → FitsSigned w32 d → IsRow 9 (a ∷ b ∷ c ∷ d ∷ []) (ClearColorx a b c d)
-unfolding id_of arguments IsInRange kinds_of
-row-ClearColorx a b c d in_a in_b in_c in_d = (refl, refl, (in_a, (in_b, (in_c, (in_d, tt)))))
+third_call_of-is : (id : ℕ) (args : List ℤ) (call : Call) → third_call_of id args ≡ Some call → IsRow id args call
+unfolding third_call_of id_of kinds_of arguments
+third_call_of-is id args call h =
+    by_test (eqb id 33) _ _ call h (λ same h. row_is id 33 [] GetError (refl, refl, refl) args call same h) (λ h.
+    by_test (eqb id 34) _ _ call h (λ same h. row_is id 34 (Enum ∷ Pointer ∷ []) GetFixedv (λ a b. (refl, refl, refl)) args call same h) (λ h.
+    by_test (eqb id 35) _ _ call h (λ same h. row_is id 35 (Enum ∷ Pointer ∷ []) GetIntegerv (λ a b. (refl, refl, refl)) args call same h) (λ h.
+    by_test (eqb id 36) _ _ call h (λ same h. row_is id 36 (Enum ∷ Pointer ∷ []) GetPointerv (λ a b. (refl, refl, refl)) args call same h) (λ h.
+    by_test (eqb id 38) _ _ call h (λ same h. row_is id 38 (Enum ∷ []) IsEnabled (λ a. (refl, refl, refl)) args call same h) (λ h.
+    by_test (eqb id 40) _ _ call h (λ same h. row_is id 40 [] LoadIdentity (refl, refl, refl) args call same h) (λ h.
+    by_test (eqb id 42) _ _ call h (λ same h. row_is id 42 (Enum ∷ []) MatrixMode (λ a. (refl, refl, refl)) args call same h) (λ h.
+    by_test (eqb id 46) _ _ call h (λ same h. row_is id 46 (Enum ∷ Int ∷ Pointer ∷ []) NormalPointer (λ a b c. (refl, refl, refl)) args call same h) (λ h.
+    by_test (eqb id 47) _ _ call h (λ same h. row_is id 47 (Fixed ∷ Fixed ∷ Fixed ∷ Fixed ∷ Fixed ∷ Fixed ∷ []) Orthox (λ a b c d e f. (refl, refl, refl)) args call same h) (λ h.
+    by_test (eqb id 48) _ _ call h (λ same h. row_is id 48 (Enum ∷ Int ∷ []) PixelStorei (λ a b. (refl, refl, refl)) args call same h) (λ h. absurd (cc)))))))))))
 
-row-Frustumx : (a b c d e g : ℤ) → FitsSigned w32 a → FitsSigned w32 b → FitsSigned w32 c → FitsSigned w32 d → FitsSigned w32 e → FitsSigned w32 g → IsRow 30 (a ∷ b ∷ c ∷ d ∷ e ∷ g ∷ []) (Frustumx a b c d e g)
-unfolding id_of arguments IsInRange kinds_of
-row-Frustumx a b c d e g in_a in_b in_c in_d in_e in_g = (refl, refl, (in_a, (in_b, (in_c, (in_d, (in_e, (in_g, tt)))))))
-
-row-MatrixMode : (a : ℕ) → FitsUnsigned w32 (pos a) → IsRow 42 (pos a ∷ []) (MatrixMode a)
-unfolding id_of arguments IsInRange kinds_of
-row-MatrixMode a in_a = (refl, refl, (in_a, tt))
-
-row-Orthox : (a b c d e g : ℤ) → FitsSigned w32 a → FitsSigned w32 b → FitsSigned w32 c → FitsSigned w32 d → FitsSigned w32 e → FitsSigned w32 g → IsRow 47 (a ∷ b ∷ c ∷ d ∷ e ∷ g ∷ []) (Orthox a b c d e g)
-unfolding id_of arguments IsInRange kinds_of
-row-Orthox a b c d e g in_a in_b in_c in_d in_e in_g = (refl, refl, (in_a, (in_b, (in_c, (in_d, (in_e, (in_g, tt)))))))
-
-row-Rotatex : (a b c d : ℤ) → FitsSigned w32 a → FitsSigned w32 b → FitsSigned w32 c → FitsSigned w32 d → IsRow 52 (a ∷ b ∷ c ∷ d ∷ []) (Rotatex a b c d)
-unfolding id_of arguments IsInRange kinds_of
-row-Rotatex a b c d in_a in_b in_c in_d = (refl, refl, (in_a, (in_b, (in_c, (in_d, tt)))))
-
-row-Scalex : (a b c : ℤ) → FitsSigned w32 a → FitsSigned w32 b → FitsSigned w32 c → IsRow 53 (a ∷ b ∷ c ∷ []) (Scalex a b c)
-unfolding id_of arguments IsInRange kinds_of
-row-Scalex a b c in_a in_b in_c = (refl, refl, (in_a, (in_b, (in_c, tt))))
-
-row-Translatex : (a b c : ℤ) → FitsSigned w32 a → FitsSigned w32 b → FitsSigned w32 c → IsRow 62 (a ∷ b ∷ c ∷ []) (Translatex a b c)
-unfolding id_of arguments IsInRange kinds_of
-row-Translatex a b c in_a in_b in_c = (refl, refl, (in_a, (in_b, (in_c, tt))))
-
-row-Viewport : (a b c d : ℤ) → FitsSigned w32 a → FitsSigned w32 b → FitsSigned w32 c → FitsSigned w32 d → IsRow 64 (a ∷ b ∷ c ∷ d ∷ []) (Viewport a b c d)
-unfolding id_of arguments IsInRange kinds_of
-row-Viewport a b c d in_a in_b in_c in_d = (refl, refl, (in_a, (in_b, (in_c, (in_d, tt)))))
-
-lower_call_of-is : (id : ℕ) (args : List ℤ) (call : Call) → lower_call_of id args ≡ Some call → IsRow id args call
-unfolding lower_call_of id_of arguments IsInRange kinds_of
-lower_call_of-is id args call h =
-    by_test (eqb id 8) _ _ call h (λ e h. at_id id 8 args call e (one_of-is 8 Clear args call row-Clear h)) (λ h.
-    by_test (eqb id 9) _ _ call h (λ e h. at_id id 9 args call e (four_of-is 9 ClearColorx args call row-ClearColorx h)) (λ h.
-    by_test (eqb id 27) _ _ call h (λ e h. at_id id 27 args call e (bare_of-is 27 Finish args call (refl, refl, tt) h)) (λ h.
-    by_test (eqb id 28) _ _ call h (λ e h. at_id id 28 args call e (bare_of-is 28 Flush args call (refl, refl, tt) h)) (λ h.
-    by_test (eqb id 30) _ _ call h (λ e h. at_id id 30 args call e (six_of-is 30 Frustumx args call row-Frustumx h)) (λ h.
-    by_test (eqb id 33) _ _ call h (λ e h. at_id id 33 args call e (bare_of-is 33 GetError args call (refl, refl, tt) h)) (λ h. absurd (cc)))))))
-
-upper_call_of-is : (id : ℕ) (args : List ℤ) (call : Call) → upper_call_of id args ≡ Some call → IsRow id args call
-unfolding upper_call_of id_of arguments IsInRange kinds_of
-upper_call_of-is id args call h =
-    by_test (eqb id 40) _ _ call h (λ e h. at_id id 40 args call e (bare_of-is 40 LoadIdentity args call (refl, refl, tt) h)) (λ h.
-    by_test (eqb id 42) _ _ call h (λ e h. at_id id 42 args call e (one_of-is 42 MatrixMode args call row-MatrixMode h)) (λ h.
-    by_test (eqb id 47) _ _ call h (λ e h. at_id id 47 args call e (six_of-is 47 Orthox args call row-Orthox h)) (λ h.
-    by_test (eqb id 49) _ _ call h (λ e h. at_id id 49 args call e (bare_of-is 49 PopMatrix args call (refl, refl, tt) h)) (λ h.
-    by_test (eqb id 50) _ _ call h (λ e h. at_id id 50 args call e (bare_of-is 50 PushMatrix args call (refl, refl, tt) h)) (λ h.
-    by_test (eqb id 52) _ _ call h (λ e h. at_id id 52 args call e (four_of-is 52 Rotatex args call row-Rotatex h)) (λ h.
-    by_test (eqb id 53) _ _ call h (λ e h. at_id id 53 args call e (three_of-is 53 Scalex args call row-Scalex h)) (λ h.
-    by_test (eqb id 62) _ _ call h (λ e h. at_id id 62 args call e (three_of-is 62 Translatex args call row-Translatex h)) (λ h.
-    by_test (eqb id 64) _ _ call h (λ e h. at_id id 64 args call e (four_of-is 64 Viewport args call row-Viewport h)) (λ h. absurd (cc))))))))))
+fourth_call_of-is : (id : ℕ) (args : List ℤ) (call : Call) → fourth_call_of id args ≡ Some call → IsRow id args call
+unfolding fourth_call_of id_of kinds_of arguments
+fourth_call_of-is id args call h =
+    by_test (eqb id 49) _ _ call h (λ same h. row_is id 49 [] PopMatrix (refl, refl, refl) args call same h) (λ h.
+    by_test (eqb id 50) _ _ call h (λ same h. row_is id 50 [] PushMatrix (refl, refl, refl) args call same h) (λ h.
+    by_test (eqb id 51) _ _ call h (λ same h. row_is id 51 (Int ∷ Int ∷ Int ∷ Int ∷ Enum ∷ Enum ∷ Pointer ∷ []) ReadPixels (λ a b c d e f g. (refl, refl, refl)) args call same h) (λ h.
+    by_test (eqb id 52) _ _ call h (λ same h. row_is id 52 (Fixed ∷ Fixed ∷ Fixed ∷ Fixed ∷ []) Rotatex (λ a b c d. (refl, refl, refl)) args call same h) (λ h.
+    by_test (eqb id 53) _ _ call h (λ same h. row_is id 53 (Fixed ∷ Fixed ∷ Fixed ∷ []) Scalex (λ a b c. (refl, refl, refl)) args call same h) (λ h.
+    by_test (eqb id 56) _ _ call h (λ same h. row_is id 56 (Int ∷ Enum ∷ Int ∷ Pointer ∷ []) TexCoordPointer (λ a b c d. (refl, refl, refl)) args call same h) (λ h.
+    by_test (eqb id 62) _ _ call h (λ same h. row_is id 62 (Fixed ∷ Fixed ∷ Fixed ∷ []) Translatex (λ a b c. (refl, refl, refl)) args call same h) (λ h.
+    by_test (eqb id 63) _ _ call h (λ same h. row_is id 63 (Int ∷ Enum ∷ Int ∷ Pointer ∷ []) VertexPointer (λ a b c d. (refl, refl, refl)) args call same h) (λ h.
+    by_test (eqb id 64) _ _ call h (λ same h. row_is id 64 (Int ∷ Int ∷ Int ∷ Int ∷ []) Viewport (λ a b c d. (refl, refl, refl)) args call same h) (λ h. absurd (cc))))))))))
 
 pub call_of-is : (id : ℕ) (args : List ℤ) (call : Call) → call_of id args ≡ Some call → IsRow id args call
 unfolding call_of
-call_of-is id args call h = either_answer (nat_lt id 40) _ _ call h (lower_call_of-is id args call) (upper_call_of-is id args call)
-
-three_of-again : (f : ℤ → ℤ → ℤ → Call) (a b c : ℤ) → FitsSigned w32 a → FitsSigned w32 b → FitsSigned w32 c → three_of f (a ∷ b ∷ c ∷ []) ≡ Some (f a b c)
-three_of-again f a b c in_a in_b in_c = rw (signed_of-again a in_a, signed_of-again b in_b, signed_of-again c in_c) refl
-
-four_of-again : (f : ℤ → ℤ → ℤ → ℤ → Call) (a b c d : ℤ) → FitsSigned w32 a → FitsSigned w32 b → FitsSigned w32 c → FitsSigned w32 d
-    → four_of f (a ∷ b ∷ c ∷ d ∷ []) ≡ Some (f a b c d)
-four_of-again f a b c d in_a in_b in_c in_d = rw (signed_of-again a in_a) (three_of-again (f a) b c d in_b in_c in_d)
-
-six_of-again : (f : ℤ → ℤ → ℤ → ℤ → ℤ → ℤ → Call) (a b c d e g : ℤ) → FitsSigned w32 a → FitsSigned w32 b → FitsSigned w32 c → FitsSigned w32 d → FitsSigned w32 e → FitsSigned w32 g
-    → six_of f (a ∷ b ∷ c ∷ d ∷ e ∷ g ∷ []) ≡ Some (f a b c d e g)
-six_of-again f a b c d e g in_a in_b in_c in_d in_e in_g = rw (signed_of-again a in_a, signed_of-again b in_b) (four_of-again (f a b) c d e g in_c in_d in_e in_g)
+call_of-is id args call h =
+    either_answer (nat_lt id 33) _ _ call h
+    (λ low. either_answer (nat_lt id 17) _ _ call low (first_call_of-is id args call) (second_call_of-is id args call))
+    (λ high. either_answer (nat_lt id 49) _ _ call high (third_call_of-is id args call) (fourth_call_of-is id args call))
 
 pub call_of-again : (call : Call) → IsInRange call → call_of (id_of call) (arguments call) ≡ Some call
-unfolding call_of lower_call_of upper_call_of id_of arguments IsInRange kinds_of
-call_of-again (Clear mask) h = ap (option_map Clear) (unsigned_of-again mask (h.0))
-call_of-again (ClearColorx red green blue alpha) h = four_of-again ClearColorx red green blue alpha (h.0) (h.1.0) (h.1.1.0) (h.1.1.1.0)
+unfolding call_of first_call_of second_call_of third_call_of fourth_call_of made_of id_of arguments IsInRange kinds_of
+call_of-again (ActiveTexture texture) h = made_of-again (Enum ∷ []) ActiveTexture (texture, tt) h
+call_of-again (Clear mask) h = made_of-again (Unsigned ∷ []) Clear (mask, tt) h
+call_of-again (ClearColorx red green blue alpha) h = made_of-again (Fixed ∷ Fixed ∷ Fixed ∷ Fixed ∷ []) ClearColorx (red, (green, (blue, (alpha, tt)))) h
+call_of-again (ClientActiveTexture texture) h = made_of-again (Enum ∷ []) ClientActiveTexture (texture, tt) h
+call_of-again (ColorPointer size kind stride pointer) h = made_of-again (Int ∷ Enum ∷ Int ∷ Pointer ∷ []) ColorPointer (size, (kind, (stride, (pointer, tt)))) h
+call_of-again (DisableClientState array) h = made_of-again (Enum ∷ []) DisableClientState (array, tt) h
+call_of-again (EnableClientState array) h = made_of-again (Enum ∷ []) EnableClientState (array, tt) h
 call_of-again Finish h = refl
 call_of-again Flush h = refl
-call_of-again (Frustumx left right bottom top near far) h = six_of-again Frustumx left right bottom top near far (h.0) (h.1.0) (h.1.1.0) (h.1.1.1.0) (h.1.1.1.1.0) (h.1.1.1.1.1.0)
+call_of-again (Frustumx left right bottom top near far) h = made_of-again (Fixed ∷ Fixed ∷ Fixed ∷ Fixed ∷ Fixed ∷ Fixed ∷ []) Frustumx (left, (right, (bottom, (top, (near, (far, tt)))))) h
 call_of-again GetError h = refl
+call_of-again (GetFixedv pname params) h = made_of-again (Enum ∷ Pointer ∷ []) GetFixedv (pname, (params, tt)) h
+call_of-again (GetIntegerv pname params) h = made_of-again (Enum ∷ Pointer ∷ []) GetIntegerv (pname, (params, tt)) h
+call_of-again (GetPointerv pname params) h = made_of-again (Enum ∷ Pointer ∷ []) GetPointerv (pname, (params, tt)) h
+call_of-again (IsEnabled capability) h = made_of-again (Enum ∷ []) IsEnabled (capability, tt) h
 call_of-again LoadIdentity h = refl
-call_of-again (MatrixMode mode) h = ap (option_map MatrixMode) (unsigned_of-again mode (h.0))
-call_of-again (Orthox left right bottom top near far) h = six_of-again Orthox left right bottom top near far (h.0) (h.1.0) (h.1.1.0) (h.1.1.1.0) (h.1.1.1.1.0) (h.1.1.1.1.1.0)
+call_of-again (MatrixMode mode) h = made_of-again (Enum ∷ []) MatrixMode (mode, tt) h
+call_of-again (NormalPointer kind stride pointer) h = made_of-again (Enum ∷ Int ∷ Pointer ∷ []) NormalPointer (kind, (stride, (pointer, tt))) h
+call_of-again (Orthox left right bottom top near far) h = made_of-again (Fixed ∷ Fixed ∷ Fixed ∷ Fixed ∷ Fixed ∷ Fixed ∷ []) Orthox (left, (right, (bottom, (top, (near, (far, tt)))))) h
+call_of-again (PixelStorei pname param) h = made_of-again (Enum ∷ Int ∷ []) PixelStorei (pname, (param, tt)) h
 call_of-again PopMatrix h = refl
 call_of-again PushMatrix h = refl
-call_of-again (Rotatex angle x y z) h = four_of-again Rotatex angle x y z (h.0) (h.1.0) (h.1.1.0) (h.1.1.1.0)
-call_of-again (Scalex x y z) h = three_of-again Scalex x y z (h.0) (h.1.0) (h.1.1.0)
-call_of-again (Translatex x y z) h = three_of-again Translatex x y z (h.0) (h.1.0) (h.1.1.0)
-call_of-again (Viewport x y width height) h = four_of-again Viewport x y width height (h.0) (h.1.0) (h.1.1.0) (h.1.1.1.0)
+call_of-again (ReadPixels x y width height format kind pixels) h = made_of-again (Int ∷ Int ∷ Int ∷ Int ∷ Enum ∷ Enum ∷ Pointer ∷ []) ReadPixels (x, (y, (width, (height, (format, (kind, (pixels, tt))))))) h
+call_of-again (Rotatex angle x y z) h = made_of-again (Fixed ∷ Fixed ∷ Fixed ∷ Fixed ∷ []) Rotatex (angle, (x, (y, (z, tt)))) h
+call_of-again (Scalex x y z) h = made_of-again (Fixed ∷ Fixed ∷ Fixed ∷ []) Scalex (x, (y, (z, tt))) h
+call_of-again (TexCoordPointer size kind stride pointer) h = made_of-again (Int ∷ Enum ∷ Int ∷ Pointer ∷ []) TexCoordPointer (size, (kind, (stride, (pointer, tt)))) h
+call_of-again (Translatex x y z) h = made_of-again (Fixed ∷ Fixed ∷ Fixed ∷ []) Translatex (x, (y, (z, tt))) h
+call_of-again (VertexPointer size kind stride pointer) h = made_of-again (Int ∷ Enum ∷ Int ∷ Pointer ∷ []) VertexPointer (size, (kind, (stride, (pointer, tt)))) h
+call_of-again (Viewport x y width height) h = made_of-again (Int ∷ Int ∷ Int ∷ Int ∷ []) Viewport (x, (y, (width, (height, tt)))) h
 
 -- a call has this number, and so many arguments
 abbrev pub HasCount : ℕ → ℕ → Type 0
 HasCount id count = (call : Call) × (id_of call ≡ id) × (length (arguments call) ≡ count)
 
 counted : (id n count : ℕ) (call : Call) → eqb id n ≡ true → id_of call ≡ n → Some (length (arguments call)) ≡ Some count → HasCount id count
-counted id n count call e row h = (call, row ∙ sym (eqb-true id n e), cc)
+counted id n count call same row h = (call, row ∙ sym (eqb-true id n same), cc)
 
-lower_argument_count-is : (id count : ℕ) → lower_argument_count id ≡ Some count → HasCount id count
-unfolding lower_argument_count id_of arguments
-lower_argument_count-is id count h =
-    by_test (eqb id 8) _ _ count h (λ e h. counted id 8 count (Clear 0) e refl h) (λ h.
-    by_test (eqb id 9) _ _ count h (λ e h. counted id 9 count (ClearColorx (pos 0) (pos 0) (pos 0) (pos 0)) e refl h) (λ h.
-    by_test (eqb id 27) _ _ count h (λ e h. counted id 27 count Finish e refl h) (λ h.
-    by_test (eqb id 28) _ _ count h (λ e h. counted id 28 count Flush e refl h) (λ h.
-    by_test (eqb id 30) _ _ count h (λ e h. counted id 30 count (Frustumx (pos 0) (pos 0) (pos 0) (pos 0) (pos 0) (pos 0)) e refl h) (λ h.
-    by_test (eqb id 33) _ _ count h (λ e h. counted id 33 count GetError e refl h) (λ h. absurd (cc)))))))
+first_argument_count-is : (id count : ℕ) → first_argument_count id ≡ Some count → HasCount id count
+unfolding first_argument_count id_of arguments
+first_argument_count-is id count h =
+    by_test (eqb id 1) _ _ count h (λ same h. counted id 1 count (ActiveTexture 0) same refl h) (λ h.
+    by_test (eqb id 8) _ _ count h (λ same h. counted id 8 count (Clear 0) same refl h) (λ h.
+    by_test (eqb id 9) _ _ count h (λ same h. counted id 9 count (ClearColorx (pos 0) (pos 0) (pos 0) (pos 0)) same refl h) (λ h.
+    by_test (eqb id 11) _ _ count h (λ same h. counted id 11 count (ClientActiveTexture 0) same refl h) (λ h.
+    by_test (eqb id 14) _ _ count h (λ same h. counted id 14 count (ColorPointer (pos 0) 0 (pos 0) 0) same refl h) (λ h. absurd (cc))))))
 
-upper_argument_count-is : (id count : ℕ) → upper_argument_count id ≡ Some count → HasCount id count
-unfolding upper_argument_count id_of arguments
-upper_argument_count-is id count h =
-    by_test (eqb id 40) _ _ count h (λ e h. counted id 40 count LoadIdentity e refl h) (λ h.
-    by_test (eqb id 42) _ _ count h (λ e h. counted id 42 count (MatrixMode 0) e refl h) (λ h.
-    by_test (eqb id 47) _ _ count h (λ e h. counted id 47 count (Orthox (pos 0) (pos 0) (pos 0) (pos 0) (pos 0) (pos 0)) e refl h) (λ h.
-    by_test (eqb id 49) _ _ count h (λ e h. counted id 49 count PopMatrix e refl h) (λ h.
-    by_test (eqb id 50) _ _ count h (λ e h. counted id 50 count PushMatrix e refl h) (λ h.
-    by_test (eqb id 52) _ _ count h (λ e h. counted id 52 count (Rotatex (pos 0) (pos 0) (pos 0) (pos 0)) e refl h) (λ h.
-    by_test (eqb id 53) _ _ count h (λ e h. counted id 53 count (Scalex (pos 0) (pos 0) (pos 0)) e refl h) (λ h.
-    by_test (eqb id 62) _ _ count h (λ e h. counted id 62 count (Translatex (pos 0) (pos 0) (pos 0)) e refl h) (λ h.
-    by_test (eqb id 64) _ _ count h (λ e h. counted id 64 count (Viewport (pos 0) (pos 0) (pos 0) (pos 0)) e refl h) (λ h. absurd (cc))))))))))
+second_argument_count-is : (id count : ℕ) → second_argument_count id ≡ Some count → HasCount id count
+unfolding second_argument_count id_of arguments
+second_argument_count-is id count h =
+    by_test (eqb id 22) _ _ count h (λ same h. counted id 22 count (DisableClientState 0) same refl h) (λ h.
+    by_test (eqb id 26) _ _ count h (λ same h. counted id 26 count (EnableClientState 0) same refl h) (λ h.
+    by_test (eqb id 27) _ _ count h (λ same h. counted id 27 count Finish same refl h) (λ h.
+    by_test (eqb id 28) _ _ count h (λ same h. counted id 28 count Flush same refl h) (λ h.
+    by_test (eqb id 30) _ _ count h (λ same h. counted id 30 count (Frustumx (pos 0) (pos 0) (pos 0) (pos 0) (pos 0) (pos 0)) same refl h) (λ h. absurd (cc))))))
+
+third_argument_count-is : (id count : ℕ) → third_argument_count id ≡ Some count → HasCount id count
+unfolding third_argument_count id_of arguments
+third_argument_count-is id count h =
+    by_test (eqb id 33) _ _ count h (λ same h. counted id 33 count GetError same refl h) (λ h.
+    by_test (eqb id 34) _ _ count h (λ same h. counted id 34 count (GetFixedv 0 0) same refl h) (λ h.
+    by_test (eqb id 35) _ _ count h (λ same h. counted id 35 count (GetIntegerv 0 0) same refl h) (λ h.
+    by_test (eqb id 36) _ _ count h (λ same h. counted id 36 count (GetPointerv 0 0) same refl h) (λ h.
+    by_test (eqb id 38) _ _ count h (λ same h. counted id 38 count (IsEnabled 0) same refl h) (λ h.
+    by_test (eqb id 40) _ _ count h (λ same h. counted id 40 count LoadIdentity same refl h) (λ h.
+    by_test (eqb id 42) _ _ count h (λ same h. counted id 42 count (MatrixMode 0) same refl h) (λ h.
+    by_test (eqb id 46) _ _ count h (λ same h. counted id 46 count (NormalPointer 0 (pos 0) 0) same refl h) (λ h.
+    by_test (eqb id 47) _ _ count h (λ same h. counted id 47 count (Orthox (pos 0) (pos 0) (pos 0) (pos 0) (pos 0) (pos 0)) same refl h) (λ h.
+    by_test (eqb id 48) _ _ count h (λ same h. counted id 48 count (PixelStorei 0 (pos 0)) same refl h) (λ h. absurd (cc)))))))))))
+
+fourth_argument_count-is : (id count : ℕ) → fourth_argument_count id ≡ Some count → HasCount id count
+unfolding fourth_argument_count id_of arguments
+fourth_argument_count-is id count h =
+    by_test (eqb id 49) _ _ count h (λ same h. counted id 49 count PopMatrix same refl h) (λ h.
+    by_test (eqb id 50) _ _ count h (λ same h. counted id 50 count PushMatrix same refl h) (λ h.
+    by_test (eqb id 51) _ _ count h (λ same h. counted id 51 count (ReadPixels (pos 0) (pos 0) (pos 0) (pos 0) 0 0 0) same refl h) (λ h.
+    by_test (eqb id 52) _ _ count h (λ same h. counted id 52 count (Rotatex (pos 0) (pos 0) (pos 0) (pos 0)) same refl h) (λ h.
+    by_test (eqb id 53) _ _ count h (λ same h. counted id 53 count (Scalex (pos 0) (pos 0) (pos 0)) same refl h) (λ h.
+    by_test (eqb id 56) _ _ count h (λ same h. counted id 56 count (TexCoordPointer (pos 0) 0 (pos 0) 0) same refl h) (λ h.
+    by_test (eqb id 62) _ _ count h (λ same h. counted id 62 count (Translatex (pos 0) (pos 0) (pos 0)) same refl h) (λ h.
+    by_test (eqb id 63) _ _ count h (λ same h. counted id 63 count (VertexPointer (pos 0) 0 (pos 0) 0) same refl h) (λ h.
+    by_test (eqb id 64) _ _ count h (λ same h. counted id 64 count (Viewport (pos 0) (pos 0) (pos 0) (pos 0)) same refl h) (λ h. absurd (cc))))))))))
 
 pub argument_count-is : (id count : ℕ) → argument_count id ≡ Some count → HasCount id count
 unfolding argument_count
-argument_count-is id count h = either_answer (nat_lt id 40) _ _ count h (lower_argument_count-is id count) (upper_argument_count-is id count)
+argument_count-is id count h =
+    either_answer (nat_lt id 33) _ _ count h
+    (λ low. either_answer (nat_lt id 17) _ _ count low (first_argument_count-is id count) (second_argument_count-is id count))
+    (λ high. either_answer (nat_lt id 49) _ _ count high (third_argument_count-is id count) (fourth_argument_count-is id count))
 
 pub argument_count-again : (call : Call) → argument_count (id_of call) ≡ Some (length (arguments call))
-unfolding argument_count lower_argument_count upper_argument_count id_of arguments
+unfolding argument_count first_argument_count second_argument_count third_argument_count fourth_argument_count id_of arguments
+argument_count-again (ActiveTexture texture) = refl
 argument_count-again (Clear mask) = refl
 argument_count-again (ClearColorx red green blue alpha) = refl
+argument_count-again (ClientActiveTexture texture) = refl
+argument_count-again (ColorPointer size kind stride pointer) = refl
+argument_count-again (DisableClientState array) = refl
+argument_count-again (EnableClientState array) = refl
 argument_count-again Finish = refl
 argument_count-again Flush = refl
 argument_count-again (Frustumx left right bottom top near far) = refl
 argument_count-again GetError = refl
+argument_count-again (GetFixedv pname params) = refl
+argument_count-again (GetIntegerv pname params) = refl
+argument_count-again (GetPointerv pname params) = refl
+argument_count-again (IsEnabled cap) = refl
 argument_count-again LoadIdentity = refl
 argument_count-again (MatrixMode mode) = refl
+argument_count-again (NormalPointer kind stride pointer) = refl
 argument_count-again (Orthox left right bottom top near far) = refl
+argument_count-again (PixelStorei pname param) = refl
 argument_count-again PopMatrix = refl
 argument_count-again PushMatrix = refl
+argument_count-again (ReadPixels x y width height format kind pixels) = refl
 argument_count-again (Rotatex angle x y z) = refl
 argument_count-again (Scalex x y z) = refl
+argument_count-again (TexCoordPointer size kind stride pointer) = refl
 argument_count-again (Translatex x y z) = refl
+argument_count-again (VertexPointer size kind stride pointer) = refl
 argument_count-again (Viewport x y width height) = refl
 
 pub call_of-law : CallOfLaw

@@ -10,7 +10,7 @@ use Rattle.gl_words.specs.Shape.{IsShapeOf, IsNamedShape, each_row, shapes, shap
 use Rattle.gl_words.specs.declared.shape.ArgKind.{ArgKind}
 use Rattle.gl_words.specs.declared.shape.Shape.{Shape}
 use Rattle.gl_words.specs.declared.call.Call.{Call}
-use Rattle.gl_words.specs.declared.call.Call.TheVariants.{Clear, ClearColorx, Finish, Flush, Frustumx, GetError, LoadIdentity, MatrixMode, Orthox, PopMatrix, PushMatrix, Rotatex, Scalex, Translatex, Viewport}
+use Rattle.gl_words.specs.declared.call.Call.TheVariants.{ActiveTexture, Clear, ClearColorx, ClientActiveTexture, ColorPointer, DisableClientState, EnableClientState, Finish, Flush, Frustumx, GetError, GetFixedv, GetIntegerv, GetPointerv, IsEnabled, LoadIdentity, MatrixMode, NormalPointer, Orthox, PixelStorei, PopMatrix, PushMatrix, ReadPixels, Rotatex, Scalex, TexCoordPointer, Translatex, VertexPointer, Viewport}
 
 abbrev pub shape_of : Call → ℕ × List ArgKind
 shape_of call = (id_of call, kinds_of call)
@@ -27,20 +27,34 @@ found_is_of_a_call (call ∷ calls) name shape h =
 
 each_call_is_found : (call : Call) → found_in (shape_rows each_row) (name_of call) ≡ Some (shape_of call)
 unfolding name_of id_of kinds_of
+each_call_is_found (ActiveTexture texture) = refl
 each_call_is_found (Clear mask) = refl
 each_call_is_found (ClearColorx red green blue alpha) = refl
+each_call_is_found (ClientActiveTexture texture) = refl
+each_call_is_found (ColorPointer size kind stride pointer) = refl
+each_call_is_found (DisableClientState array) = refl
+each_call_is_found (EnableClientState array) = refl
 each_call_is_found Finish = refl
 each_call_is_found Flush = refl
 each_call_is_found (Frustumx left right bottom top near far) = refl
 each_call_is_found GetError = refl
+each_call_is_found (GetFixedv pname params) = refl
+each_call_is_found (GetIntegerv pname params) = refl
+each_call_is_found (GetPointerv pname params) = refl
+each_call_is_found (IsEnabled cap) = refl
 each_call_is_found LoadIdentity = refl
 each_call_is_found (MatrixMode mode) = refl
+each_call_is_found (NormalPointer kind stride pointer) = refl
 each_call_is_found (Orthox left right bottom top near far) = refl
+each_call_is_found (PixelStorei pname param) = refl
 each_call_is_found PopMatrix = refl
 each_call_is_found PushMatrix = refl
+each_call_is_found (ReadPixels x y width height format kind pixels) = refl
 each_call_is_found (Rotatex angle x y z) = refl
 each_call_is_found (Scalex x y z) = refl
+each_call_is_found (TexCoordPointer size kind stride pointer) = refl
 each_call_is_found (Translatex x y z) = refl
+each_call_is_found (VertexPointer size kind stride pointer) = refl
 each_call_is_found (Viewport x y width height) = refl
 
 none_is_not_some : {X : Type 0} (x : X) → None ≡ Some x → ⊥

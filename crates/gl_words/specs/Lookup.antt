@@ -3,11 +3,11 @@ use Rattle.std.specs.Prelude.{ℕ, List, [], ◌∷◌, map, Option, Some, None,
 use Rattle.std.specs.Str.{bytes_eq}
 use Rattle.gl_words.specs.declared.names.Name.{Name}
 
--- the code's rows, as pairs
+-- the code's rows, as pairs; own
 abbrev pub seen_names : List Name → List (List ℕ × ℕ)
 seen_names = map (λ row. (row.0.now, row.1))
 
--- what stands beside the first row with the name
+-- what stands beside the first row with the name; own
 abbrev pub found_in : {X : Type 0} → List (List ℕ × X) → List ℕ → Option X
 found_in [] name = None
 found_in (row ∷ rows) name = if bytes_eq row.0 name then Some row.1 else found_in rows name

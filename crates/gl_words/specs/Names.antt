@@ -2,7 +2,7 @@
 use Rattle.std.specs.Prelude.{ℕ, List, [], ◌∷◌, Option, codes}
 use Rattle.gl_words.specs.Lookup.{found_in}
 
--- each name with its number
+-- each name with its number; tables 6.4 to 6.20 and the header, the choice own
 unfoldable pub names : List (List ℕ × ℕ)
 names =
     -- modes
@@ -157,6 +157,6 @@ names =
     (codes "TEXTURE_COORD_ARRAY_POINTER", 0x8092) ∷
     []
 
--- the number beside a name
+-- the number beside a name; own
 abbrev pub number_named : List ℕ → Option ℕ
 number_named name = found_in names name

@@ -3,14 +3,19 @@
 
 mod call;
 mod error;
+mod first_rows;
+mod fourth_rows;
 mod laws;
+mod making;
 mod names;
+mod second_rows;
 mod shape;
 mod table;
 #[cfg(test)]
 mod tests;
+mod third_rows;
 
-pub use call::{Call, arg_at, arg_count, call_id, call_name, in_range};
+pub use call::{Call, arg_at, arg_count, call_id, call_name, in_range, is_answering};
 pub use error::GlError;
 pub use laws::call_law;
 pub use names::number_of_enum;

@@ -37,7 +37,14 @@ pub(crate) struct NamedShape {
     shape: Shape,
 }
 
-static SHAPES: [NamedShape; 15] = [
+static SHAPES: [NamedShape; 29] = [
+    NamedShape {
+        name: "ActiveTexture",
+        shape: Shape {
+            id: 1,
+            kinds: &[ArgKind::Enum],
+        },
+    },
     NamedShape {
         name: "Clear",
         shape: Shape {
@@ -55,6 +62,34 @@ static SHAPES: [NamedShape; 15] = [
                 ArgKind::Fixed,
                 ArgKind::Fixed,
             ],
+        },
+    },
+    NamedShape {
+        name: "ClientActiveTexture",
+        shape: Shape {
+            id: 11,
+            kinds: &[ArgKind::Enum],
+        },
+    },
+    NamedShape {
+        name: "ColorPointer",
+        shape: Shape {
+            id: 14,
+            kinds: &[ArgKind::Int, ArgKind::Enum, ArgKind::Int, ArgKind::Pointer],
+        },
+    },
+    NamedShape {
+        name: "DisableClientState",
+        shape: Shape {
+            id: 22,
+            kinds: &[ArgKind::Enum],
+        },
+    },
+    NamedShape {
+        name: "EnableClientState",
+        shape: Shape {
+            id: 26,
+            kinds: &[ArgKind::Enum],
         },
     },
     NamedShape {
@@ -84,6 +119,34 @@ static SHAPES: [NamedShape; 15] = [
         shape: Shape { id: 33, kinds: &[] },
     },
     NamedShape {
+        name: "GetFixedv",
+        shape: Shape {
+            id: 34,
+            kinds: &[ArgKind::Enum, ArgKind::Pointer],
+        },
+    },
+    NamedShape {
+        name: "GetIntegerv",
+        shape: Shape {
+            id: 35,
+            kinds: &[ArgKind::Enum, ArgKind::Pointer],
+        },
+    },
+    NamedShape {
+        name: "GetPointerv",
+        shape: Shape {
+            id: 36,
+            kinds: &[ArgKind::Enum, ArgKind::Pointer],
+        },
+    },
+    NamedShape {
+        name: "IsEnabled",
+        shape: Shape {
+            id: 38,
+            kinds: &[ArgKind::Enum],
+        },
+    },
+    NamedShape {
         name: "LoadIdentity",
         shape: Shape { id: 40, kinds: &[] },
     },
@@ -92,6 +155,13 @@ static SHAPES: [NamedShape; 15] = [
         shape: Shape {
             id: 42,
             kinds: &[ArgKind::Enum],
+        },
+    },
+    NamedShape {
+        name: "NormalPointer",
+        shape: Shape {
+            id: 46,
+            kinds: &[ArgKind::Enum, ArgKind::Int, ArgKind::Pointer],
         },
     },
     NamedShape {
@@ -109,12 +179,34 @@ static SHAPES: [NamedShape; 15] = [
         },
     },
     NamedShape {
+        name: "PixelStorei",
+        shape: Shape {
+            id: 48,
+            kinds: &[ArgKind::Enum, ArgKind::Int],
+        },
+    },
+    NamedShape {
         name: "PopMatrix",
         shape: Shape { id: 49, kinds: &[] },
     },
     NamedShape {
         name: "PushMatrix",
         shape: Shape { id: 50, kinds: &[] },
+    },
+    NamedShape {
+        name: "ReadPixels",
+        shape: Shape {
+            id: 51,
+            kinds: &[
+                ArgKind::Int,
+                ArgKind::Int,
+                ArgKind::Int,
+                ArgKind::Int,
+                ArgKind::Enum,
+                ArgKind::Enum,
+                ArgKind::Pointer,
+            ],
+        },
     },
     NamedShape {
         name: "Rotatex",
@@ -136,10 +228,24 @@ static SHAPES: [NamedShape; 15] = [
         },
     },
     NamedShape {
+        name: "TexCoordPointer",
+        shape: Shape {
+            id: 56,
+            kinds: &[ArgKind::Int, ArgKind::Enum, ArgKind::Int, ArgKind::Pointer],
+        },
+    },
+    NamedShape {
         name: "Translatex",
         shape: Shape {
             id: 62,
             kinds: &[ArgKind::Fixed, ArgKind::Fixed, ArgKind::Fixed],
+        },
+    },
+    NamedShape {
+        name: "VertexPointer",
+        shape: Shape {
+            id: 63,
+            kinds: &[ArgKind::Int, ArgKind::Enum, ArgKind::Int, ArgKind::Pointer],
         },
     },
     NamedShape {

@@ -1,5 +1,0 @@
-use Rattle.std.proofs.Common.{rules}
-use Rattle.gl_words.proofs.table.frustum_from.Goals as goal
-
-pub returns-in-len6 : goal.returns-in-len6
-returns-in-len6 c = search rules
