@@ -38,6 +38,13 @@ impl Matrix {
         self.values[at]
     }
 
+    /// Its 16 numbers of 16.16 fixed, by columns. Section 2.10.2 of OpenGL ES 1.1.12.
+    pub fn values(&self) -> [i32; 16]
+        ensures { result ≡ self.now.values }
+    {
+        self.values
+    }
+
     /// The number in a row and a column.
     fn entry(&self, row: usize, column: usize) -> i32
         requires row { row < 4 }
