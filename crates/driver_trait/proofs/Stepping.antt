@@ -1,37 +1,52 @@
--- What the calls built so far do to tracked state: three change it, and none reads memory or asks for a number.
+-- What a call does to tracked state, what it reads and for what it asks, by the kinds of calls.
 use Rattle.std.proofs.Common.{◌≡◌, Bool, true, false, List, [], Option, Some, None, refl, sym, ap, ◌∙◌}
 use Rattle.gl_words.specs.declared.call.Call.{Call}
-use Rattle.gl_words.specs.declared.call.Call.TheVariants.{Clear, ClearColorx, Finish, Flush, Frustumx, GetError, LoadIdentity, MatrixMode, Orthox, PopMatrix, PushMatrix, Rotatex, Scalex, Translatex, Viewport}
+use Rattle.gl_words.specs.declared.call.Call.TheVariants.{ActiveTexture, Clear, ClientActiveTexture, ColorPointer, DisableClientState, EnableClientState, MatrixMode, NormalPointer, PixelStorei, PopMatrix, PushMatrix, TexCoordPointer, VertexPointer}
 use Rattle.gl_words.specs.declared.error.GlError.{GlError}
 use Rattle.gl_memory.specs.Segment.{Segment}
 use Rattle.driver_trait.specs.declared.tracked.Tracked.{Tracked}
 use Rattle.driver_trait.specs.Fault.{fault_of}
 use Rattle.driver_trait.specs.Step.{set_by, unless_fault, tracked_after, reads_of}
-pub use Rattle.driver_trait.specs.Recording.{tracked_after-memory, number_asked-none}
-
-unless_fault-same : (fault : Option GlError) (tracked : Tracked) → tracked ≡ unless_fault fault tracked tracked
-unless_fault-same None tracked = refl
-unless_fault-same (Some error) tracked = refl
+pub use Rattle.driver_trait.specs.Recording.{tracked_after-memory, tracked_after-asked, number_asked-unanswered}
+use Rattle.driver_trait.specs.Recording.{unless_fault-same}
 
 -- whether a call may change tracked state; own
 abbrev pub may_set : Call → Bool
+may_set (ActiveTexture texture) = true
+may_set (ClientActiveTexture texture) = true
+may_set (ColorPointer size kind stride pointer) = true
+may_set (DisableClientState array) = true
+may_set (EnableClientState array) = true
 may_set (MatrixMode mode) = true
+may_set (NormalPointer kind stride pointer) = true
+may_set (PixelStorei pname param) = true
 may_set PopMatrix = true
 may_set PushMatrix = true
+may_set (TexCoordPointer size kind stride pointer) = true
+may_set (VertexPointer size kind stride pointer) = true
 may_set _ = false
 
 set_by-others : (tracked : Tracked) (call : Call) (memory : List Segment) → may_set call ≡ false → set_by tracked call memory ≡ tracked
 unfolding set_by
+set_by-others tracked (ActiveTexture texture) memory h = absurd (cc)
+set_by-others tracked (ClientActiveTexture texture) memory h = absurd (cc)
+set_by-others tracked (ColorPointer size kind stride pointer) memory h = absurd (cc)
+set_by-others tracked (DisableClientState array) memory h = absurd (cc)
+set_by-others tracked (EnableClientState array) memory h = absurd (cc)
 set_by-others tracked (MatrixMode mode) memory h = absurd (cc)
+set_by-others tracked (NormalPointer kind stride pointer) memory h = absurd (cc)
+set_by-others tracked (PixelStorei pname param) memory h = absurd (cc)
 set_by-others tracked PopMatrix memory h = absurd (cc)
 set_by-others tracked PushMatrix memory h = absurd (cc)
+set_by-others tracked (TexCoordPointer size kind stride pointer) memory h = absurd (cc)
+set_by-others tracked (VertexPointer size kind stride pointer) memory h = absurd (cc)
 set_by-others tracked _ memory h = refl
 
--- every call but three leaves tracked state
+-- every other call leaves tracked state
 pub tracked_after-others : (tracked : Tracked) (call : Call) (memory : List Segment) → may_set call ≡ false → tracked ≡ tracked_after tracked call memory
 unfolding tracked_after
 tracked_after-others tracked call memory h =
-    unless_fault-same (fault_of tracked call) tracked ∙ sym (ap (unless_fault (fault_of tracked call) tracked) (set_by-others tracked call memory h))
+    sym (ap (unless_fault (fault_of tracked call) tracked) (set_by-others tracked call memory h) ∙ unless_fault-same (fault_of tracked call) tracked)
 
 -- a call with an error leaves tracked state; section 2.5
 pub tracked_after-fault : (tracked : Tracked) (call : Call) (memory : List Segment) (error : GlError) → fault_of tracked call ≡ Some error → tracked_after tracked call memory ≡ tracked
@@ -47,17 +62,4 @@ tracked_after-no_fault tracked call memory h = ap (λ (fault : Option GlError). 
 pub reads_of-none : (tracked : Tracked) (call : Call) (memory : List Segment) → reads_of tracked call memory ≡ []
 unfolding reads_of
 reads_of-none tracked (Clear mask) memory = refl
-reads_of-none tracked (ClearColorx red green blue alpha) memory = refl
-reads_of-none tracked Finish memory = refl
-reads_of-none tracked Flush memory = refl
-reads_of-none tracked (Frustumx left right bottom top near far) memory = refl
-reads_of-none tracked GetError memory = refl
-reads_of-none tracked LoadIdentity memory = refl
-reads_of-none tracked (MatrixMode mode) memory = refl
-reads_of-none tracked (Orthox left right bottom top near far) memory = refl
-reads_of-none tracked PopMatrix memory = refl
-reads_of-none tracked PushMatrix memory = refl
-reads_of-none tracked (Rotatex angle x y z) memory = refl
-reads_of-none tracked (Scalex x y z) memory = refl
-reads_of-none tracked (Translatex x y z) memory = refl
-reads_of-none tracked (Viewport x y width height) memory = refl
+reads_of-none tracked _ memory = refl

@@ -1,9 +1,12 @@
 pub mod Tracked
 pub mod Stack
+pub mod Arrays
+pub mod Gets
 pub mod Fault
 pub mod Step
 pub mod Room
 pub mod Reply
+pub mod Output
 pub mod Driver
 pub use Rattle.gl_words.specs.Call
 pub use Rattle.gl_memory.specs.Segment

@@ -1,7 +1,11 @@
 -- The laws of drivers, as the test driver keeps them.
-use Rattle.std.proofs.Common.{◌≡◌, ℤ, List, [], ◌∷◌, ◌++◌, Option, None, refl, sym, ap, ◌∙◌}
+use Rattle.std.proofs.Common.{◌≡◌, ℤ, false, List, [], ◌∷◌, ◌++◌, Option, Some, None, refl, sym, ap, ◌∙◌}
+use Rattle.std.proofs.lemmas.Bool.{true≢false}
+use Rattle.std.proofs.lemmas.Option.{none-some}
+use Rattle.gl_words.specs.Call.{is_answering}
 use Rattle.gl_words.specs.declared.call.Call.{Call}
-use Rattle.gl_words.specs.declared.call.Call.TheVariants.{Clear, ClearColorx, Finish, Flush, Frustumx, GetError, LoadIdentity, MatrixMode, Orthox, PopMatrix, PushMatrix, Rotatex, Scalex, Translatex, Viewport}
+use Rattle.gl_words.specs.declared.call.Call.TheVariants.{Clear, GetIntegerv, GetPointerv, IsEnabled}
+use Rattle.gl_words.specs.declared.error.GlError.{GlError}
 use Rattle.gl_memory.specs.Segment.{Segment}
 use Rattle.driver_trait.specs.declared.tracked.Tracked.{Tracked}
 use Rattle.driver_trait.specs.Fault.{fault_of}
@@ -12,59 +16,62 @@ use Rattle.driver_trait.specs.Recorder.{Recorded, RecorderSteps, recorded_unless
 set_by-memory : (tracked : Tracked) (call : Call) (m n : List Segment) → set_by tracked call m ≡ set_by tracked call n
 unfolding set_by
 set_by-memory tracked (Clear mask) m n = refl
-set_by-memory tracked (ClearColorx red green blue alpha) m n = refl
-set_by-memory tracked Finish m n = refl
-set_by-memory tracked Flush m n = refl
-set_by-memory tracked (Frustumx left right bottom top near far) m n = refl
-set_by-memory tracked GetError m n = refl
-set_by-memory tracked LoadIdentity m n = refl
-set_by-memory tracked (MatrixMode mode) m n = refl
-set_by-memory tracked (Orthox left right bottom top near far) m n = refl
-set_by-memory tracked PopMatrix m n = refl
-set_by-memory tracked PushMatrix m n = refl
-set_by-memory tracked (Rotatex angle x y z) m n = refl
-set_by-memory tracked (Scalex x y z) m n = refl
-set_by-memory tracked (Translatex x y z) m n = refl
-set_by-memory tracked (Viewport x y width height) m n = refl
+set_by-memory tracked _ m n = refl
 
 -- no call's step depends on memory yet
 pub tracked_after-memory : (tracked : Tracked) (call : Call) (m n : List Segment) → tracked_after tracked call m ≡ tracked_after tracked call n
 unfolding tracked_after
 tracked_after-memory tracked call m n = ap (unless_fault (fault_of tracked call) tracked) (set_by-memory tracked call m n)
 
--- no call asks for tracked state yet
-pub number_asked-none : (tracked : Tracked) (call : Call) → number_asked tracked call ≡ None
-unfolding number_asked
-number_asked-none tracked (Clear mask) = refl
-number_asked-none tracked (ClearColorx red green blue alpha) = refl
-number_asked-none tracked Finish = refl
-number_asked-none tracked Flush = refl
-number_asked-none tracked (Frustumx left right bottom top near far) = refl
-number_asked-none tracked GetError = refl
-number_asked-none tracked LoadIdentity = refl
-number_asked-none tracked (MatrixMode mode) = refl
-number_asked-none tracked (Orthox left right bottom top near far) = refl
-number_asked-none tracked PopMatrix = refl
-number_asked-none tracked PushMatrix = refl
-number_asked-none tracked (Rotatex angle x y z) = refl
-number_asked-none tracked (Scalex x y z) = refl
-number_asked-none tracked (Translatex x y z) = refl
-number_asked-none tracked (Viewport x y width height) = refl
+set_by-asked : (tracked : Tracked) (call : Call) (memory : List Segment) (number : ℤ) → number_asked tracked call ≡ Some number → set_by tracked call memory ≡ tracked
+unfolding number_asked set_by
+set_by-asked tracked (GetIntegerv pname params) memory number asked = refl
+set_by-asked tracked (GetPointerv pname params) memory number asked = refl
+set_by-asked tracked (IsEnabled cap) memory number asked = refl
+set_by-asked tracked _ memory number asked = absurd (none-some number asked)
 
--- the recorder with this tracked state that met a further call; own
-abbrev recorded_with : Tracked → Recorded → Call → Recorded
-recorded_with tracked st call = record { tracked = tracked; calls = st.calls ++ call ∷ [] }
+-- whatever the error, tracked state that isn't set stays
+pub unless_fault-same : (fault : Option GlError) (tracked : Tracked) → unless_fault fault tracked tracked ≡ tracked
+unless_fault-same None tracked = refl
+unless_fault-same (Some error) tracked = refl
 
-recorded_after-each : (st : Recorded) (call : Call) (memory : List Segment) → recorded_after st call memory ≡ recorded_with (tracked_after st.tracked call memory) st call
-unfolding recorded_after
-recorded_after-each st call memory = ap (λ (asked : Option ℤ). recorded_unless asked st call memory) (number_asked-none st.tracked call)
+-- a call that asks for a number of tracked state leaves it
+pub tracked_after-asked : (tracked : Tracked) (call : Call) (memory : List Segment) (number : ℤ) → number_asked tracked call ≡ Some number → tracked_after tracked call memory ≡ tracked
+unfolding tracked_after
+tracked_after-asked tracked call memory number asked =
+    ap (unless_fault (fault_of tracked call) tracked) (set_by-asked tracked call memory number asked) ∙ unless_fault-same (fault_of tracked call) tracked
 
-recorded_after-tracked : (st : Recorded) (call : Call) (memory : List Segment) → (recorded_after st call memory).tracked ≡ tracked_after st.tracked call memory
-recorded_after-tracked st call memory = ap (λ (r : Recorded). r.tracked) (recorded_after-each st call memory)
+-- a call that isn't answered asks for no number of tracked state
+pub number_asked-unanswered : (tracked : Tracked) (call : Call) → is_answering call ≡ false → number_asked tracked call ≡ None
+unfolding is_answering number_asked
+number_asked-unanswered tracked (GetIntegerv pname params) h = absurd (true≢false h)
+number_asked-unanswered tracked (GetPointerv pname params) h = absurd (true≢false h)
+number_asked-unanswered tracked (IsEnabled cap) h = absurd (true≢false h)
+number_asked-unanswered tracked _ h = refl
 
-recorded_after-memory : (st : Recorded) (call : Call) (m n : List Segment) → recorded_after st call m ≡ recorded_after st call n
-recorded_after-memory st call m n =
-    recorded_after-each st call m ∙ ap (λ (t : Tracked). recorded_with t st call) (tracked_after-memory st.tracked call m n) ∙ sym (recorded_after-each st call n)
+module _ (st : Recorded) (call : Call) where
+  recorded_unless-tracked : (asked : Option ℤ) (memory : List Segment) → ((number : ℤ) → asked ≡ Some number → tracked_after st.tracked call memory ≡ st.tracked)
+      → (recorded_unless asked st call memory).tracked ≡ tracked_after st.tracked call memory
+  recorded_unless-tracked (Some number) memory same = sym (same number refl)
+  recorded_unless-tracked None memory same = refl
+
+  recorded_after-tracked : (memory : List Segment) → (recorded_after st call memory).tracked ≡ tracked_after st.tracked call memory
+  unfolding recorded_after
+  recorded_after-tracked memory = recorded_unless-tracked (number_asked st.tracked call) memory (tracked_after-asked st.tracked call memory)
+
+  recorded_unless-memory : (asked : Option ℤ) (m n : List Segment) → recorded_unless asked st call m ≡ recorded_unless asked st call n
+  recorded_unless-memory (Some number) m n = refl
+  recorded_unless-memory None m n =
+      let grown : Tracked → Recorded = λ tracked. record { tracked = tracked; calls = st.calls ++ call ∷ [] } in
+      ap grown (tracked_after-memory st.tracked call m n)
+
+  recorded_after-memory : (m n : List Segment) → recorded_after st call m ≡ recorded_after st call n
+  unfolding recorded_after
+  recorded_after-memory m n = recorded_unless-memory (number_asked st.tracked call) m n
+
+  recorded_after-asked : (memory : List Segment) (number : ℤ) → number_asked st.tracked call ≡ Some number → recorded_after st call memory ≡ st
+  unfolding recorded_after
+  recorded_after-asked memory number asked = ap (λ (o : Option ℤ). recorded_unless o st call memory) asked
 
 -- no call reads memory yet
 alone : ReadsAlone (λ (st : Recorded). st.tracked) RecorderSteps
@@ -74,13 +81,16 @@ alone st call m n st2 reply in_range bytes others agree =
 follows : Follows (λ (st : Recorded). st.tracked) RecorderSteps
 follows st call m st2 reply in_range bytes step = ap (λ (r : Recorded). r.tracked) (step.0) ∙ recorded_after-tracked st call m
 
--- no call asks for tracked state yet
 answers : Answers (λ (st : Recorded). st.tracked) RecorderSteps
-answers st call m number st2 reply in_range bytes asked = let none = number_asked-none st.tracked call in absurd (cc)
+unfolding recorder_reply
+answers st call m number st2 reply in_range bytes asked =
+    let same = recorded_after-asked st call m number asked in
+    let given = ap number_replied asked in
+    (λ step. (step.0 ∙ same, step.1 ∙ given), λ step. (step.0 ∙ sym same, step.1 ∙ sym given))
 
 replies : Replies (λ (st : Recorded). st.tracked) RecorderSteps
 unfolding recorder_reply
-replies st call m st2 reply in_range bytes none step = step.1 ∙ ap number_replied (number_asked-none st.tracked call)
+replies st call m st2 reply in_range bytes unanswered step = step.1 ∙ ap number_replied (number_asked-unanswered st.tracked call unanswered)
 
 -- the relation of the recorder keeps the laws
 pub recorder_is_driver : IsDriver (λ (st : Recorded). st.tracked) RecorderSteps

@@ -15,6 +15,14 @@ current_stack tracked =
     if tracked.matrix_mode == 0x1701 then 1 else (
     if tracked.active == 0x84C0 then 2 else 3))
 
+-- the texture stack of the active unit, as its place among the depths; section 2.10.2
+unfoldable pub texture_stack : Tracked → ℕ
+texture_stack tracked = if tracked.active == 0x84C0 then 2 else 3
+
+-- how many matrices there are on a stack, by its place; section 2.10.2
+unfoldable pub depth_at : Tracked → ℕ → ℕ
+depth_at tracked place = slice_index_or tracked.depths place 0
+
 -- how many matrices there are on the current stack; section 2.10.2
 unfoldable pub current_depth : Tracked → ℕ
 current_depth tracked = slice_index_or tracked.depths (current_stack tracked) 0

@@ -28,6 +28,30 @@ first_tracked = record {
 abbrev pub array_types : List ℕ
 array_types = 0x1400 ∷ 0x1401 ∷ 0x1402 ∷ 0x140C ∷ []
 
+-- the types of vertices, normals and texture coordinates: BYTE, SHORT and FIXED; table 2.4, without floats
+abbrev pub vertex_types : List ℕ
+vertex_types = 0x1400 ∷ 0x1402 ∷ 0x140C ∷ []
+
+-- the types of colours: UNSIGNED_BYTE and FIXED; table 2.4, without floats
+abbrev pub colour_types : List ℕ
+colour_types = 0x1401 ∷ 0x140C ∷ []
+
+-- how many numbers a vertex or a texture coordinate may have; table 2.4
+abbrev pub array_sizes : List ℤ
+array_sizes = pos 2 ∷ pos 3 ∷ pos 4 ∷ []
+
+-- the arrays: VERTEX_ARRAY, NORMAL_ARRAY, COLOR_ARRAY and TEXTURE_COORD_ARRAY; section 2.8
+abbrev pub arrays : List ℕ
+arrays = 0x8074 ∷ 0x8075 ∷ 0x8076 ∷ 0x8078 ∷ []
+
+-- the capabilities: CULL_FACE, DEPTH_TEST, ALPHA_TEST, DITHER, BLEND, SCISSOR_TEST and TEXTURE_2D; the choice own
+abbrev pub capabilities : List ℕ
+capabilities = 0x0B44 ∷ 0x0B71 ∷ 0x0BC0 ∷ 0x0BD0 ∷ 0x0BE2 ∷ 0x0C11 ∷ 0x0DE1 ∷ []
+
+-- the names of alignments: UNPACK_ALIGNMENT and PACK_ALIGNMENT; sections 3.6.1 and 4.3.1
+abbrev pub alignment_names : List ℕ
+alignment_names = 0x0CF5 ∷ 0x0D05 ∷ []
+
 -- the units: TEXTURE0 and TEXTURE1; own, of at least two
 abbrev pub units : List ℕ
 units = 0x84C0 ∷ 0x84C1 ∷ []

@@ -60,6 +60,13 @@ impl Numbers {
         self.items.len()
     }
 
+    /// All numbers, in order.
+    pub fn as_slice(&self) -> &[i64]
+        ensures { result.now ≡ self.now.items }
+    {
+        self.items.as_slice()
+    }
+
     /// The number at a place, from 0.
     pub fn at(&self, at: usize) -> i64
         requires place { at < length self.now.items }

@@ -1,6 +1,6 @@
 //! The bytes of a reply.
 
-ghost use Rattle.std.specs.Prelude.{◌≡◌, ◌<◌, ℕ, [], ◌∷◌, ◌++◌, length, slice_index_or, IfOk};
+ghost use Rattle.std.specs.Prelude.{◌≡◌, ◌^◌, ◌<◌, ℕ, [], ◌∷◌, ◌++◌, length, slice_index_or, IfOk};
 ghost use Rattle.driver_trait.specs.Room.{Roomy};
 
 use std::alloc::{AllocError as NoMemory, Global};
@@ -45,9 +45,17 @@ impl Octets {
 
     /// How many there are.
     pub fn len(&self) -> usize
-        ensures { result ≡ length self.now.items }
+        ensures len { result ≡ length self.now.items }
+        ensures few { result < 2 ^ 63 }
     {
         self.items.len()
+    }
+
+    /// All bytes, in order.
+    pub fn as_slice(&self) -> &[u8]
+        ensures { result.now ≡ self.now.items }
+    {
+        self.items.as_slice()
     }
 
     /// The byte at a place, from 0.

@@ -1,4 +1,4 @@
-//! A driver for tests: it keeps the calls that it met.
+//! A driver for tests: it keeps the calls that it met, and answers those that ask for tracked state.
 
 ghost use Rattle.std.specs.Prelude.{◌≡◌, [], IfOk, OnErr};
 ghost use Rattle.std.specs.Thread.{IsSync};
@@ -65,8 +65,13 @@ impl Driver for Recorder {
         call: &Call,
         memory: &M,
     ) -> Result<Reply, NoMemory> {
-        self.calls.push(*call)?;
-        self.tracked.note(call, memory);
-        Ok(Reply::Nothing)
+        match self.tracked.asked(call) {
+            Some(number) => Ok(Reply::One(number)),
+            None => {
+                self.calls.push(*call)?;
+                self.tracked.note(call, memory);
+                Ok(Reply::Nothing)
+            }
+        }
     }
 }

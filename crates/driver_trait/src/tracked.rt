@@ -2,13 +2,13 @@
 
 ghost use Rattle.std.specs.Prelude.{◌≡◌, ◌<◌, ◌≤◌, List, None};
 ghost use Rattle.gl_memory.specs.Segment.{Segment};
-ghost use Rattle.driver_trait.specs.Fault.{fault_of, is_known_mask, differ, is_box, is_frustum, is_extent};
-ghost use Rattle.driver_trait.specs.Stack.{current_stack, current_depth, current_most, with_depth, is_matrix_mode};
-ghost use Rattle.driver_trait.specs.Step.{set_by, tracked_after};
+ghost use Rattle.driver_trait.specs.Fault.{fault_of};
+ghost use Rattle.driver_trait.specs.Stack.{current_stack, current_depth, current_most, with_depth};
+ghost use Rattle.driver_trait.specs.Step.{set_by, tracked_after, with_alignment};
 ghost use Rattle.driver_trait.specs.Tracked.{first_array, first_tracked, IsSound};
 
 use gl_memory::Memory;
-use gl_words::{Call, GlError};
+use gl_words::Call;
 
 /// An array of vertices, normals, colours or texture coordinates (section 2.8).
 #[derive(Clone, Copy, Debug, PartialEq, Eq)]
@@ -87,41 +87,6 @@ impl Tracked {
         }
     }
 
-    /// The first error of a call, as it and the tracked state show it; the sections are those of the calls.
-    #[tactic(auto, unfolding(crate::specs::Fault::fault_of))]
-    pub fn fault(&self, call: &Call) -> Option<GlError>
-        ensures { result ≡ fault_of self.now call.now }
-    {
-        match call {
-            Call::Clear { mask } if !is_known_mask(*mask) => Some(GlError::InvalidValue),
-            Call::Frustumx {
-                left,
-                right,
-                bottom,
-                top,
-                near,
-                far,
-            } if !is_frustum(*left, *right, *bottom, *top, *near, *far) => Some(
-                GlError::InvalidValue,
-            ),
-            Call::MatrixMode { mode } if !is_matrix_mode(*mode) => Some(GlError::InvalidEnum),
-            Call::Orthox {
-                left,
-                right,
-                bottom,
-                top,
-                near,
-                far,
-            } if !is_box(*left, *right, *bottom, *top, *near, *far) => Some(GlError::InvalidValue),
-            Call::PopMatrix if self.depth() <= 1 => Some(GlError::StackUnderflow),
-            Call::PushMatrix if self.depth() >= self.most_depth() => Some(GlError::StackOverflow),
-            Call::Viewport { width, height, .. } if !is_extent(*width, *height) => Some(
-                GlError::InvalidValue,
-            ),
-            _ => None,
-        }
-    }
-
     /// Takes the step of a call on a memory. A call with an error changes nothing (section 2.5).
     pub fn note<M: Memory>(&mut self, call: &Call, memory: &M)
         ensures step { self.new ≡ tracked_after self.old call.now (M.segments memory.now) }
@@ -140,7 +105,16 @@ impl Tracked {
         ensures { (memory : List Segment) → self.new ≡ set_by self.old call.now memory }
     {
         match call {
+            Call::ActiveTexture { texture } => self.active = *texture,
+            Call::ClientActiveTexture { texture } => self.client_active = *texture,
+            Call::ColorPointer { .. }
+            | Call::NormalPointer { .. }
+            | Call::TexCoordPointer { .. }
+            | Call::VertexPointer { .. } => self.set_pointer(call),
+            Call::DisableClientState { array } => self.set_enabled(*array, false),
+            Call::EnableClientState { array } => self.set_enabled(*array, true),
             Call::MatrixMode { mode } => self.matrix_mode = *mode,
+            Call::PixelStorei { pname, param } => self.set_alignment(*pname, *param),
             Call::PopMatrix => self.set_depth(self.depth() - 1),
             Call::PushMatrix => self.set_depth(self.depth() + 1),
             _ => {}
@@ -166,7 +140,7 @@ impl Tracked {
 
     /// How many matrices there are on the current stack.
     #[tactic(auto, unfolding(crate::specs::Stack::current_depth))]
-    fn depth(&self) -> u32
+    pub(crate) fn depth(&self) -> u32
         ensures { result ≡ current_depth self.now }
     {
         self.depths[self.stack()]
@@ -174,7 +148,7 @@ impl Tracked {
 
     /// How many matrices the current stack may hold.
     #[tactic(auto, unfolding(crate::specs::Stack::current_most))]
-    fn most_depth(&self) -> u32
+    pub(crate) fn most_depth(&self) -> u32
         ensures most { result ≡ current_most self.now }
         ensures few { result ≤ 16 }
     {
@@ -189,52 +163,16 @@ impl Tracked {
         let stack = self.stack();
         self.depths[stack] = depth;
     }
-}
 
-/// Whether a mask has no bits but those of depth, stencil and colour (section 4.2.3).
-#[tactic(auto, unfolding(crate::specs::Fault::is_known_mask))]
-pub fn is_known_mask(mask: u32) -> bool
-    ensures { result ≡ is_known_mask mask }
-{
-    mask & 0x4500 == mask
-}
-
-/// Whether a number is MODELVIEW, PROJECTION or TEXTURE (section 2.10.2).
-#[tactic(auto, unfolding(crate::specs::Stack::is_matrix_mode))]
-fn is_matrix_mode(mode: u32) -> bool
-    ensures { result ≡ is_matrix_mode mode }
-{
-    matches!(mode, 0x1700 | 0x1701 | 0x1702)
-}
-
-/// Whether two numbers are not the same.
-#[tactic(auto, unfolding(crate::specs::Fault::differ))]
-fn differ(a: i32, b: i32) -> bool
-    ensures { result ≡ differ a b }
-{
-    a != b
-}
-
-/// Whether no two sides of a box that face each other are in one plane (section 2.10.2).
-#[tactic(auto, unfolding(crate::specs::Fault::is_box))]
-fn is_box(left: i32, right: i32, bottom: i32, top: i32, near: i32, far: i32) -> bool
-    ensures { result ≡ is_box left right bottom top near far }
-{
-    differ(left, right) && differ(bottom, top) && differ(near, far)
-}
-
-/// Whether both planes of a frustum are before the eye, and its sides are those of a box (section 2.10.2).
-#[tactic(auto, unfolding(crate::specs::Fault::is_frustum))]
-fn is_frustum(left: i32, right: i32, bottom: i32, top: i32, near: i32, far: i32) -> bool
-    ensures { result ≡ is_frustum left right bottom top near far }
-{
-    0 < near && 0 < far && is_box(left, right, bottom, top, near, far)
-}
-
-/// Whether neither side of a viewport is below zero (section 2.10.1).
-#[tactic(auto, unfolding(crate::specs::Fault::is_extent))]
-fn is_extent(width: i32, height: i32) -> bool
-    ensures { result ≡ is_extent width height }
-{
-    0 <= width && 0 <= height
+    /// Sets an alignment of rows: that of UNPACK_ALIGNMENT, else that of PACK_ALIGNMENT (sections 3.6.1 and 4.3.1).
+    #[tactic(auto, unfolding(crate::specs::Step::with_alignment))]
+    fn set_alignment(&mut self, name: u32, alignment: i32)
+        ensures { self.new ≡ with_alignment self.old name alignment }
+    {
+        if name == 0x0CF5 {
+            self.unpack_alignment = alignment;
+        } else {
+            self.pack_alignment = alignment;
+        }
+    }
 }

@@ -1,6 +1,6 @@
 use Rattle.std.proofs.Common.{sym, ◌∙◌}
 use Rattle.driver_trait.proofs.Stepping.{tracked_after-fault, tracked_after-no_fault}
-use Rattle.driver_trait.proofs.Stacks.{set-sound}
+use Rattle.driver_trait.proofs.Keeping.{set-sound}
 use Rattle.driver_trait.proofs.tracked.Tracked.note.Goals as goal
 
 pub returns-in-None-clause-step : goal.returns-in-None-clause-step
