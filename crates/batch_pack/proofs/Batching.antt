@@ -11,7 +11,7 @@ use Rattle.batch_pack.specs.declared.class.Class.TheVariants.{Answer, Sync, Defe
 use Rattle.batch_pack.specs.Spelling.{Spelled, slots_of, HasSpelling}
 use Rattle.batch_pack.specs.Batch.{Packing, captured, empty_batch, slots_left}
 use Rattle.batch_pack.specs.Class.{is_flush}
-use Rattle.batch_pack.specs.Cutting.{Issued, issued, batch_unless_empty, fits_behind, joined, cut_before, ended_by, open_by, ended_at, open_after, batches_from, is_class, count_of}
+use Rattle.batch_pack.specs.Cutting.{Issued, batch_unless_empty, fits_behind, joined, cut_before, ended_by, open_by, ended_at, open_after, batches_from, is_class, count_of}
 use Rattle.batch_pack.proofs.Spellings.{few_arguments}
 use Rattle.batch_pack.proofs.Packings.{slots_used-nil, slots_used-append, slots_used-one}
 use Rattle.batch_pack.proofs.Parsing.{some_slots}
@@ -32,18 +32,22 @@ pub slots_left-empty : (size : ℕ) → slots_left (empty_batch size) ≡ size
 unfolding slots_left
 slots_left-empty size = omega (arith, slots_used-nil)
 
--- the spelling of a call with no memory captured for it is short
-pub few_slots : (call : Call) → slots_of (issued call).spelled ≤ 10
+-- a call with no memory captured for it
+abbrev pub bare : Call → Spelled
+bare call = record { call = call; segments = [] }
+
+-- its spelling is short
+pub few_slots : (call : Call) → slots_of (bare call) ≤ 10
 unfolding slots_of
 few_slots call = omega (arith, few_arguments call)
 
--- so it fits an empty batch
-pub fits_empty : (size : ℕ) (call : Call) → 16 ≤ size → slots_of (issued call).spelled ≤ slots_left (empty_batch size)
-fits_empty size call least = omega (arith, slots_left-empty size, few_slots call)
+-- a call that is no longer than a batch fits an empty one
+pub fits_empty : (size : ℕ) (call : Spelled) → slots_of call ≤ size → slots_of call ≤ slots_left (empty_batch size)
+fits_empty size call short = omega (arith, slots_left-empty size)
 
--- and may be spelled, where its arguments are in range
-pub issued-HasSpelling : (call : Call) → IsInRange call → HasSpelling (issued call).spelled
-issued-HasSpelling call in_range = record {
+-- a call with nothing captured may be spelled, where its arguments are in range
+pub bare-HasSpelling : (call : Call) → IsInRange call → HasSpelling (bare call)
+bare-HasSpelling call in_range = record {
   in_range = in_range;
   few = omega arith;
   segments = tt;
@@ -51,7 +55,7 @@ issued-HasSpelling call in_range = record {
 }
 
 -- nothing is captured for a call without pieces
-pub captured-nil : (call : Call) (bytes : List ℕ) → captured call [] bytes ≡ (issued call).spelled
+pub captured-nil : (call : Call) (bytes : List ℕ) → captured call [] bytes ≡ bare call
 unfolding cut
 captured-nil call bytes = refl
 

@@ -15,7 +15,7 @@ use Rattle.gl_words.specs.CallOf.{call_of, argument_count}
 use Rattle.gl_words.specs.declared.shape.ArgKind.{ArgKind}
 use Rattle.gl_words.specs.declared.shape.ArgKind.TheVariants.{Enum, Unsigned, Int, Fixed, Bool, Pointer}
 use Rattle.gl_words.specs.declared.call.Call.{Call}
-use Rattle.gl_words.specs.declared.call.Call.TheVariants.{Clear, ClearColorx, Finish, Flush, Frustumx, GetError, LoadIdentity, MatrixMode, Orthox, PopMatrix, PushMatrix, Rotatex, Scalex, Translatex, Viewport}
+use Rattle.gl_words.specs.declared.call.Call.TheVariants.{ActiveTexture, Clear, ClearColorx, ClientActiveTexture, ColorPointer, DisableClientState, EnableClientState, Finish, Flush, Frustumx, GetError, GetFixedv, GetIntegerv, GetPointerv, IsEnabled, LoadIdentity, MatrixMode, NormalPointer, Orthox, PixelStorei, PopMatrix, PushMatrix, ReadPixels, Rotatex, Scalex, TexCoordPointer, Translatex, VertexPointer, Viewport}
 use Rattle.gl_words.proofs.Rows.{call_of-again, argument_count-again}
 use Rattle.gl_memory.specs.Segment.{Segment, AreBytes}
 use Rattle.batch_pack.specs.Spelling.{Spelled, slot_of, segment_slots, segment_spelling, slots_of, header_of, spelling_of, spellings_of, HasSpelling, HaveSpellings, SpellingLaw, IsSegment}
@@ -40,40 +40,68 @@ length-spelling_of spelled =
 
 pub few_arguments : (call : Call) → length (arguments call) ≤ 9
 unfolding arguments
+few_arguments (ActiveTexture texture) = omega arith
 few_arguments (Clear mask) = omega arith
 few_arguments (ClearColorx red green blue alpha) = omega arith
+few_arguments (ClientActiveTexture texture) = omega arith
+few_arguments (ColorPointer size kind stride pointer) = omega arith
+few_arguments (DisableClientState array) = omega arith
+few_arguments (EnableClientState array) = omega arith
 few_arguments Finish = omega arith
 few_arguments Flush = omega arith
 few_arguments (Frustumx left right bottom top near far) = omega arith
 few_arguments GetError = omega arith
+few_arguments (GetFixedv pname params) = omega arith
+few_arguments (GetIntegerv pname params) = omega arith
+few_arguments (GetPointerv pname params) = omega arith
+few_arguments (IsEnabled cap) = omega arith
 few_arguments LoadIdentity = omega arith
 few_arguments (MatrixMode mode) = omega arith
+few_arguments (NormalPointer kind stride pointer) = omega arith
 few_arguments (Orthox left right bottom top near far) = omega arith
+few_arguments (PixelStorei pname param) = omega arith
 few_arguments PopMatrix = omega arith
 few_arguments PushMatrix = omega arith
+few_arguments (ReadPixels x y width height format kind pixels) = omega arith
 few_arguments (Rotatex angle x y z) = omega arith
 few_arguments (Scalex x y z) = omega arith
+few_arguments (TexCoordPointer size kind stride pointer) = omega arith
 few_arguments (Translatex x y z) = omega arith
+few_arguments (VertexPointer size kind stride pointer) = omega arith
 few_arguments (Viewport x y width height) = omega arith
 
 -- ---- what a header says
 
 pub small_id : (call : Call) → id_of call < 2 ^ 16
 unfolding id_of
+small_id (ActiveTexture texture) = lit< tt
 small_id (Clear mask) = lit< tt
 small_id (ClearColorx red green blue alpha) = lit< tt
+small_id (ClientActiveTexture texture) = lit< tt
+small_id (ColorPointer size kind stride pointer) = lit< tt
+small_id (DisableClientState array) = lit< tt
+small_id (EnableClientState array) = lit< tt
 small_id Finish = lit< tt
 small_id Flush = lit< tt
 small_id (Frustumx left right bottom top near far) = lit< tt
 small_id GetError = lit< tt
+small_id (GetFixedv pname params) = lit< tt
+small_id (GetIntegerv pname params) = lit< tt
+small_id (GetPointerv pname params) = lit< tt
+small_id (IsEnabled cap) = lit< tt
 small_id LoadIdentity = lit< tt
 small_id (MatrixMode mode) = lit< tt
+small_id (NormalPointer kind stride pointer) = lit< tt
 small_id (Orthox left right bottom top near far) = lit< tt
+small_id (PixelStorei pname param) = lit< tt
 small_id PopMatrix = lit< tt
 small_id PushMatrix = lit< tt
+small_id (ReadPixels x y width height format kind pixels) = lit< tt
 small_id (Rotatex angle x y z) = lit< tt
 small_id (Scalex x y z) = lit< tt
+small_id (TexCoordPointer size kind stride pointer) = lit< tt
 small_id (Translatex x y z) = lit< tt
+small_id (VertexPointer size kind stride pointer) = lit< tt
 small_id (Viewport x y width height) = lit< tt
 
 pub id_said-header_of : (spelled : Spelled) → id_said (header_of spelled) ≡ id_of spelled.call

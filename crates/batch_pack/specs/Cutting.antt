@@ -4,17 +4,12 @@ use Rattle.batch_pack.specs.declared.class.Class.{Class}
 use Rattle.batch_pack.specs.declared.class.Class.TheVariants.{Answer, Sync, Defer}
 use Rattle.batch_pack.specs.Spelling.{Spelled, slots_of}
 use Rattle.batch_pack.specs.Batch.{slots_used}
-use Rattle.gl_words.specs.declared.call.Call.{Call}
-use Rattle.batch_pack.specs.Class.{class_of, is_flush}
+use Rattle.batch_pack.specs.Class.{is_flush}
 
 -- a call as it is issued: its class, and itself with what is captured for it; own
 pub record Issued : Type 0 where
   pub class : Class
   pub spelled : Spelled
-
--- a call as it is issued: none has memory captured for it yet; own
-abbrev pub issued : Call → Issued
-issued call = record { class = class_of call; spelled = record { call = call; segments = [] } }
 
 -- a batch of these calls, where there are any; own
 abbrev pub batch_unless_empty : List Spelled → List (List Spelled)

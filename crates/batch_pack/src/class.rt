@@ -1,7 +1,8 @@
-//! Which calls wait for the driver. Asked here and nowhere else.
+//! What becomes of a call when it is issued, and which call sends the open batch. Which class a call has is asked of the
+//! layer's shadow.
 
 ghost use Rattle.std.specs.Prelude.{◌≡◌};
-ghost use Rattle.batch_pack.specs.Class.{class_of, is_flush};
+ghost use Rattle.batch_pack.specs.Class.{is_flush};
 
 use gl_words::Call;
 
@@ -14,30 +15,6 @@ pub enum Class {
     Sync,
     /// It is put into a batch and carried out later.
     Defer,
-}
-
-/// The class of a call.
-#[tactic(auto, unfolding(crate::specs::Class::class_of))]
-pub fn call_class(call: &Call) -> Class
-    ensures { result ≡ class_of call.now }
-{
-    match call {
-        Call::Finish => Class::Sync,
-        Call::GetError => Class::Sync,
-        Call::Clear { .. }
-        | Call::ClearColorx { .. }
-        | Call::Flush
-        | Call::Frustumx { .. }
-        | Call::LoadIdentity
-        | Call::MatrixMode { .. }
-        | Call::Orthox { .. }
-        | Call::PopMatrix
-        | Call::PushMatrix
-        | Call::Rotatex { .. }
-        | Call::Scalex { .. }
-        | Call::Translatex { .. }
-        | Call::Viewport { .. } => Class::Defer,
-    }
 }
 
 /// Whether a call has the open batch sent on its way.

@@ -14,7 +14,7 @@ mod tests;
 mod writer;
 
 pub use batch::Batch;
-pub use class::{Class, call_class, sends_batch};
+pub use class::{Class, sends_batch};
 pub use fault::{BadSlots, Full};
 pub use laws::spelling_law;
 pub use packed::Packed;

@@ -1,5 +1,6 @@
 //! The spelling against slots that another program wrote or read, and each public call once.
 //! Slots with segments are worked by hand, since no call of today captures memory; that program reads them so too.
+//! Slots of calls with signed and unsigned arguments are worked by hand too.
 
 use super::*;
 use gl_memory::{ClientMemory, Memory, Piece, Pieces};
@@ -104,6 +105,64 @@ fn each_call_of_the_table_reads_back(rt: HostRuntime) -> Result<(), Fail> {
                 height: 4,
             },
             [0x5_0040, u64::MAX, u64::MAX - 1, 3, 4].as_slice(),
+        ),
+    ];
+    let memory = ClientMemory::new(rt.alloc(), 0)?;
+    let mut batch = Batch::new(rt.alloc(), 16)?;
+    for (call, slots) in &rows {
+        reads_back(&rt, &mut batch, &memory, *call, &[], slots);
+    }
+    Ok(())
+}
+
+// The slots are worked by hand.
+#[test]
+fn calls_with_signed_and_unsigned_arguments_read_back(rt: HostRuntime) -> Result<(), Fail> {
+    let rows = [
+        (
+            Call::ColorPointer {
+                size: 4,
+                kind: 0x1401,
+                stride: -1,
+                pointer: u32::MAX,
+            },
+            [0x5_000e, 4, 0x1401, u64::MAX, 0xffff_ffff].as_slice(),
+        ),
+        (
+            Call::GetIntegerv {
+                pname: 0x0ba2,
+                params: 16,
+            },
+            [0x3_0023, 0x0ba2, 16].as_slice(),
+        ),
+        (
+            Call::PixelStorei {
+                pname: 0x0d05,
+                param: i32::MIN,
+            },
+            [0x3_0030, 0x0d05, 0xffff_ffff_8000_0000].as_slice(),
+        ),
+        (
+            Call::ReadPixels {
+                x: -1,
+                y: -2,
+                width: 3,
+                height: 4,
+                format: 0x1908,
+                kind: 0x1401,
+                pixels: 0x8000_0000,
+            },
+            [
+                0x8_0033,
+                u64::MAX,
+                u64::MAX - 1,
+                3,
+                4,
+                0x1908,
+                0x1401,
+                0x8000_0000,
+            ]
+            .as_slice(),
         ),
     ];
     let memory = ClientMemory::new(rt.alloc(), 0)?;
@@ -443,17 +502,15 @@ fn refuses(rt: &impl Abort, slots: &[u64]) {
 }
 
 #[test]
-fn the_classes_are_those_of_the_table(rt: HostRuntime) {
+fn a_flush_alone_sends_the_batch(rt: HostRuntime) {
     let rows = [
-        (Call::Clear { mask: 0 }, Class::Defer, false),
-        (Call::Flush, Class::Defer, true),
-        (Call::Finish, Class::Sync, false),
-        (Call::GetError, Class::Sync, false),
-        (Call::PushMatrix, Class::Defer, false),
-        (Call::MatrixMode { mode: 0 }, Class::Defer, false),
+        (Call::Clear { mask: 0 }, false),
+        (Call::Flush, true),
+        (Call::Finish, false),
+        (Call::GetError, false),
+        (Call::PushMatrix, false),
     ];
-    for (call, class, sends) in rows {
-        assert_eq!(rt; call_class(&call), class);
+    for (call, sends) in rows {
         assert_eq!(rt; sends_batch(&call), sends);
     }
 }
