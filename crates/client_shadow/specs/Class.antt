@@ -1,0 +1,39 @@
+-- The class of a call: whether it is answered at once, waits, or is put off; own, after Mesa. No batch is filled here.
+use Rattle.std.specs.Prelude.{ℕ, Bool, nat_lt, if◌then◌else◌, List, [], is_some, true, false}
+use Rattle.gl_words.specs.Call.{is_answering}
+use Rattle.gl_words.specs.declared.call.Call.{Call}
+use Rattle.gl_words.specs.declared.call.Call.TheVariants.{Finish}
+use Rattle.gl_memory.specs.Segment.{Segment}
+use Rattle.gl_memory.specs.Piece.{cut}
+use Rattle.gl_memory.specs.declared.piece.Piece.{Piece}
+use Rattle.batch_pack.specs.Cutting.{Issued}
+use Rattle.batch_pack.specs.Spelling.{Spelled, slots_of}
+use Rattle.batch_pack.specs.declared.class.Class.{Class}
+use Rattle.batch_pack.specs.declared.class.Class.TheVariants.{Answer, Sync, Defer}
+use Rattle.driver_trait.specs.declared.tracked.Tracked.{Tracked}
+use Rattle.driver_trait.specs.Step.{number_asked}
+
+-- the pieces of client memory that are captured for a call: no call reads memory yet; own
+unfoldable pub pieces_of : Tracked → Call → List Segment → List Piece
+pieces_of tracked call memory = []
+
+-- a call with what is captured for it; own
+unfoldable pub captured_for : Tracked → Call → List Segment → Spelled
+captured_for tracked call memory = record { call = call; segments = cut (pieces_of tracked call memory) memory }
+
+-- a call waits for all before it, whatever it asks; section 5.1
+abbrev pub is_finish : Call → Bool
+is_finish Finish = true
+is_finish _ = false
+
+-- the class of a call, with batches of so many slots: a get of tracked state is answered; what else is answered waits, as do Finish and a call that is longer than a batch; all others are put off; own
+unfoldable pub class_of : Tracked → Call → List Segment → ℕ → Class
+class_of tracked call memory slots =
+    if is_some (number_asked tracked call) then Answer else (
+    if is_answering call then Sync else (
+    if is_finish call then Sync else (
+    if nat_lt slots (slots_of (captured_for tracked call memory)) then Sync else Defer)))
+
+-- a call as it is issued: its class, and itself with what is captured for it; own
+unfoldable pub issued_at : Tracked → Call → List Segment → ℕ → Issued
+issued_at tracked call memory slots = record { class = class_of tracked call memory slots; spelled = captured_for tracked call memory }
