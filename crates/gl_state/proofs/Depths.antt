@@ -1,15 +1,18 @@
 -- The stacks are as deep as tracked state says, before a call and after it.
-use Rattle.std.proofs.Common.{◌≡◌, ℕ, ◌+◌, ◌-◌, ◌≤◌, ◌≢◌, Bool, true, false, cond, List, [], ◌∷◌, length, None, refl, sym, ap, subst, ◌∙◌, arith}
+use Rattle.std.proofs.Common.{◌≡◌, ℕ, ◌+◌, ◌-◌, ◌≤◌, ◌≢◌, ℤ, Bool, true, false, cond, eqb, List, [], ◌∷◌, length, None, refl, sym, ap, subst, ◌∙◌, arith}
 use Rattle.std.specs.Prelude.{◌==◌, slice_index_or, slice_set}
+use Rattle.std.proofs.lemmas.Bool.{cond_both}
 use Rattle.gl_words.specs.declared.call.Call.{Call}
-use Rattle.gl_words.specs.declared.call.Call.TheVariants.{Frustumx, LoadIdentity, Orthox, PopMatrix, PushMatrix, Rotatex, Scalex, Translatex}
+use Rattle.gl_words.specs.declared.call.Call.TheVariants.{ColorPointer, DisableClientState, EnableClientState, Frustumx, LoadIdentity, NormalPointer, Orthox, PixelStorei, PopMatrix, PushMatrix, Rotatex, Scalex, TexCoordPointer, Translatex, VertexPointer}
 use Rattle.gl_memory.specs.Segment.{Segment}
 use Rattle.fixed_transform.specs.declared.matrix.Matrix.{Matrix}
 use Rattle.fixed_transform.specs.Stack.{top_of, below_top}
+use Rattle.driver_trait.specs.declared.tracked.ArrayState.{ArrayState}
 use Rattle.driver_trait.specs.declared.tracked.Tracked.{Tracked}
+use Rattle.driver_trait.specs.Arrays.{with_array, with_enabled, with_pointer}
 use Rattle.driver_trait.specs.Fault.{fault_of}
 use Rattle.driver_trait.specs.Stack.{current_stack, current_depth, current_most, with_depth}
-use Rattle.driver_trait.specs.Step.{set_by}
+use Rattle.driver_trait.specs.Step.{set_by, with_alignment}
 use Rattle.driver_trait.specs.Tracked.{most_depths, AreDepths, IsSound}
 use Rattle.driver_trait.proofs.Stacks.{pop_has_two, push_has_room}
 use Rattle.gl_state.specs.Stacks.{StacksView, current_of, most_of, depths_of}
@@ -94,6 +97,27 @@ module _ (tracked : Tracked) (s : StacksView) (deep : tracked.depths ≡ depths_
       let most = current_most-most_of tracked in
       λ full. omega arith
 
+-- calls on arrays and alignments leave the depths
+module _ (tracked : Tracked) where
+  with_array-depths : (array : ℕ) (new : ArrayState) → (with_array tracked array new).depths ≡ tracked.depths
+  unfolding with_array
+  with_array-depths array new =
+      cond_both (eqb array 0x8074) _ _ (λ (t : Tracked). t.depths ≡ tracked.depths) (λ _. refl) (λ _.
+      cond_both (eqb array 0x8075) _ _ (λ (t : Tracked). t.depths ≡ tracked.depths) (λ _. refl) (λ _.
+      cond_both (eqb array 0x8076) _ _ (λ (t : Tracked). t.depths ≡ tracked.depths) (λ _. refl) (λ _. refl)))
+
+  with_enabled-depths : (array : ℕ) (is_on : Bool) → (with_enabled tracked array is_on).depths ≡ tracked.depths
+  unfolding with_enabled
+  with_enabled-depths array is_on = with_array-depths array _
+
+  with_pointer-depths : (array : ℕ) (size : ℤ) (kind : ℕ) (stride : ℤ) (pointer : ℕ) → (with_pointer tracked array size kind stride pointer).depths ≡ tracked.depths
+  unfolding with_pointer
+  with_pointer-depths array size kind stride pointer = with_array-depths array _
+
+  with_alignment-depths : (name : ℕ) (alignment : ℤ) → (with_alignment tracked name alignment).depths ≡ tracked.depths
+  unfolding with_alignment
+  with_alignment-depths name alignment = cond_both (eqb name 0x0CF5) _ _ (λ (t : Tracked). t.depths ≡ tracked.depths) (λ _. refl) (λ _. refl)
+
 -- the stacks are as deep as tracked state says after a call without an error too
 module _ (tracked : Tracked) (s : StacksView) (sound : IsSound tracked) (deep : tracked.depths ≡ depths_of s) where
   some_current : 1 ≤ length (current_of s tracked.matrix_mode tracked.active)
@@ -112,14 +136,21 @@ module _ (tracked : Tracked) (s : StacksView) (sound : IsSound tracked) (deep : 
 
   pub depths-set_by : (call : Call) (memory : List Segment) → (set_by tracked call memory).depths ≡ depths_of (stacks_set_by tracked s call)
   unfolding set_by stacks_set_by
+  depths-set_by (ColorPointer size kind stride pointer) memory = with_pointer-depths tracked 0x8076 size kind stride pointer ∙ deep
+  depths-set_by (DisableClientState array) memory = with_enabled-depths tracked array false ∙ deep
+  depths-set_by (EnableClientState array) memory = with_enabled-depths tracked array true ∙ deep
   depths-set_by (Frustumx left right bottom top near far) memory = topped _
   depths-set_by LoadIdentity memory = topped _
+  depths-set_by (NormalPointer kind stride pointer) memory = with_pointer-depths tracked 0x8075 tracked.normal.size kind stride pointer ∙ deep
   depths-set_by (Orthox left right bottom top near far) memory = topped _
+  depths-set_by (PixelStorei pname param) memory = with_alignment-depths tracked pname param ∙ deep
   depths-set_by PopMatrix memory =
       at_depth below_top (current_depth tracked - 1) (omega (arith, current_depth-length tracked s deep, length-below_top (current_of s tracked.matrix_mode tracked.active)))
   depths-set_by PushMatrix memory =
       at_depth (λ matrices. top_of matrices ∷ matrices) (current_depth tracked + 1) (omega (arith, current_depth-length tracked s deep))
   depths-set_by (Rotatex angle x y z) memory = topped _
   depths-set_by (Scalex x y z) memory = topped _
+  depths-set_by (TexCoordPointer size kind stride pointer) memory = with_pointer-depths tracked 0x8078 size kind stride pointer ∙ deep
   depths-set_by (Translatex x y z) memory = topped _
+  depths-set_by (VertexPointer size kind stride pointer) memory = with_pointer-depths tracked 0x8074 size kind stride pointer ∙ deep
   depths-set_by _ memory = deep

@@ -1,2 +1,5 @@
+pub mod Clamping
 pub mod Depths
+pub mod Getting
 pub mod Stepping
+pub mod Widths

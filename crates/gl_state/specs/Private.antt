@@ -17,7 +17,7 @@ pub record PrivateView : Type 0 where
   pub stacks : StacksView
   pub settings : Settings
 
--- the tracked part is sound, its depths are those of the stacks, and the clear colour's parts are 0 to 1; own
+-- the tracked part is sound, its depths are those of the stacks, and the clear colour and the viewport are within their bounds; own
 pub record IsWhole (tracked : Tracked) (stacks : StacksView) (settings : Settings) : Type 0 where
   pub sound : IsSound tracked
   pub depths : tracked.depths ≡ depths_of stacks

@@ -75,6 +75,14 @@ abbrev pub AreWithinOne : List ℤ → Type 0
 AreWithinOne [] = Unit {0}
 AreWithinOne (number ∷ numbers) = (pos 0 ≤ℤ number) × (number ≤ℤ one) × AreWithinOne numbers
 
--- the parts of the clear colour are 0 to 1; section 4.2.3
+-- x and y of a rectangle are at most 1024 pixels from zero, and its width and height 0 to 512; section 2.10.1, the bounds own
+abbrev pub IsViewport : List ℤ → Type 0
+IsViewport (x ∷ y ∷ width ∷ height ∷ []) =
+    (neg_ℤ (pos 1024) ≤ℤ x) × (x ≤ℤ pos 1024) × (neg_ℤ (pos 1024) ≤ℤ y) × (y ≤ℤ pos 1024)
+    × (pos 0 ≤ℤ width) × (width ≤ℤ pos 512) × (pos 0 ≤ℤ height) × (height ≤ℤ pos 512)
+IsViewport _ = ⊥
+
+-- the parts of the clear colour are 0 to 1, and the viewport is within its bounds; sections 2.10.1 and 4.2.3
 pub record AreClamped (settings : Settings) : Type 0 where
   pub clear_colour : AreWithinOne settings.clear_colour
+  pub viewport : IsViewport settings.viewport

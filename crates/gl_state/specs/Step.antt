@@ -1,7 +1,7 @@
 -- What a call does to the private state of a context, what it replies, and what it needs beyond that state; sections 2.5, 2.10.1, 2.10.2, 4.2.3, 6.1.
-use Rattle.std.specs.Prelude.{ℕ, pos, List, [], ◌∷◌, Option, Some, None}
+use Rattle.std.specs.Prelude.{ℕ, ℤ, pos, List, [], ◌∷◌, Option, Some, None}
 use Rattle.gl_words.specs.declared.call.Call.{Call}
-use Rattle.gl_words.specs.declared.call.Call.TheVariants.{Clear, ClearColorx, Frustumx, GetError, LoadIdentity, Orthox, PopMatrix, PushMatrix, Rotatex, Scalex, Translatex, Viewport}
+use Rattle.gl_words.specs.declared.call.Call.TheVariants.{Clear, ClearColorx, Frustumx, GetError, GetFixedv, GetIntegerv, GetPointerv, IsEnabled, LoadIdentity, Orthox, PopMatrix, PushMatrix, ReadPixels, Rotatex, Scalex, Translatex, Viewport}
 use Rattle.gl_words.specs.declared.error.GlError.{GlError}
 use Rattle.gl_words.specs.GlError.{code_of}
 use Rattle.gl_memory.specs.Segment.{Segment}
@@ -12,11 +12,13 @@ use Rattle.fixed_transform.specs.Rotation.{rotation_of}
 use Rattle.fixed_transform.specs.Stack.{top_of, below_top}
 use Rattle.driver_trait.specs.declared.tracked.Tracked.{Tracked}
 use Rattle.driver_trait.specs.Fault.{fault_of}
+use Rattle.driver_trait.specs.Gets.{pointer_asked}
 use Rattle.driver_trait.specs.Step.{set_by}
-use Rattle.driver_trait.specs.Reply.{Replied, Nothing, Numbers}
+use Rattle.driver_trait.specs.Reply.{Replied, Nothing, Numbers, Bytes}
 use Rattle.gl_state.specs.declared.settings.Settings.{Settings}
 use Rattle.gl_state.specs.declared.plan.Plan.{Plan}
 use Rattle.gl_state.specs.declared.plan.Plan.TheVariants.{Fault, Local, Pixels}
+use Rattle.gl_state.specs.Gets.{alone, fixed_asked, integers_asked, truth_asked}
 use Rattle.gl_state.specs.Private.{PrivateView}
 use Rattle.gl_state.specs.Settings.{clamped_to_one, clamped_origin, clamped_side}
 use Rattle.gl_state.specs.Stacks.{StacksView, current_of, with_current}
@@ -78,20 +80,45 @@ abbrev pub code_of_error : Option GlError → ℕ
 code_of_error None = 0
 code_of_error (Some error) = code_of error
 
--- what a call replies: GetError the recorded error, all others nothing; section 2.5
-unfoldable pub private_reply : PrivateView → Call → Replied
-private_reply p GetError = Numbers (pos (code_of_error p.error) ∷ [])
-private_reply p _ = Nothing
+-- numbers as a reply, where there are some; own
+abbrev pub numbers_replied : Option (List ℤ) → Replied
+numbers_replied None = Nothing
+numbers_replied (Some numbers) = Numbers numbers
 
--- how many numbers a call may reply; section 2.5
+-- what a call other than ReadPixels replies where it has this error, or none: a get what it asks for, GetError the recorded error; sections 2.5 and 6.1
+abbrev pub reply_by : Option GlError → PrivateView → Call → Replied
+reply_by (Some error) p call = Nothing
+reply_by None p GetError = Numbers (pos (code_of_error p.error) ∷ [])
+reply_by None p (GetFixedv pname params) = numbers_replied (fixed_asked p pname)
+reply_by None p (GetIntegerv pname params) = numbers_replied (integers_asked p pname)
+reply_by None p (GetPointerv pname params) = numbers_replied (alone (pointer_asked p.tracked pname))
+reply_by None p (IsEnabled cap) = numbers_replied (truth_asked p cap)
+reply_by None p _ = Nothing
+
+-- what a call other than ReadPixels replies; sections 2.5 and 6.1
+unfoldable pub private_reply : PrivateView → Call → Replied
+private_reply p call = reply_by (fault_of p.tracked call) p call
+
+-- the numbers of a reply, where it has some; own
+abbrev pub numbers_in : Replied → List ℤ
+numbers_in Nothing = []
+numbers_in (Numbers numbers) = numbers
+numbers_in (Bytes bytes) = []
+
+-- how many numbers a call may reply; sections 2.5 and 6.1
 unfoldable pub most_numbers : Call → ℕ
 most_numbers GetError = 1
+most_numbers (GetFixedv pname params) = 16
+most_numbers (GetIntegerv pname params) = 4
+most_numbers (GetPointerv pname params) = 1
+most_numbers (IsEnabled cap) = 1
 most_numbers _ = 0
 
--- what a call needs beyond the private state, with this error or none: Clear the pixels of the frame, all others nothing; own
+-- what a call needs beyond the private state, with this error or none: Clear and ReadPixels the pixels of the frame, all others nothing; own
 abbrev pub plan_by : Option GlError → Call → Plan
 plan_by (Some error) call = Fault error
 plan_by None (Clear mask) = Pixels
+plan_by None (ReadPixels x y width height format kind pixels) = Pixels
 plan_by None _ = Local
 
 -- how a call is carried out, as the private state and the call show it; own

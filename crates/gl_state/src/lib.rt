@@ -1,6 +1,9 @@
 //! The private state of a context: all that calls set, but objects and pixels; and what a call does to it.
 #![tactic(auto)]
 
+#[cfg(test)]
+mod get_tests;
+mod gets;
 mod plan;
 mod private;
 mod settings;

@@ -1,13 +1,14 @@
 //! The private state of a context, its state at the start, and what a call does to it.
 
-ghost use Rattle.std.specs.Prelude.{◌≡◌, ◌<◌, ◌≤◌, ◌≢◌, None, [], IfOk, IsErr};
+ghost use Rattle.std.specs.Prelude.{◌≡◌, ◌<◌, ◌≤◌, ◌≢◌, None, [], length, IfOk, IsErr};
 ghost use Rattle.driver_trait.specs.Fault.{fault_of};
 ghost use Rattle.driver_trait.specs.Reply.{replied};
 ghost use Rattle.driver_trait.specs.Tracked.{IsSound};
+ghost use Rattle.gl_state.specs.Gets.{AreArrays};
 ghost use Rattle.gl_state.specs.Private.{AreSides, first_private};
 ghost use Rattle.gl_state.specs.Settings.{AreClamped, AreWithinOne};
 ghost use Rattle.gl_state.specs.Stacks.{current_of};
-ghost use Rattle.gl_state.specs.Step.{code_of_error, error_set_by, most_numbers, plan_by, plan_of, private_after, private_by, private_reply, recorded};
+ghost use Rattle.gl_state.specs.Step.{code_of_error, error_set_by, most_numbers, numbers_in, plan_by, plan_of, private_after, private_by, private_reply, recorded};
 ghost use Rattle.fixed_transform.specs.Stack.{top_of};
 
 use crate::plan::Plan;
@@ -125,8 +126,25 @@ impl Private {
         ensures { let p = self.now in
             result ≡ top_of (current_of p.stacks p.tracked.matrix_mode p.tracked.active) }
     {
-        self.stacks
-            .top(self.tracked.matrix_mode, self.tracked.active)
+        self.top_at(self.tracked.matrix_mode)
+    }
+
+    /// The matrix that would be the current one in a mode, the active unit being as it is (section 2.10.2).
+    pub(crate) fn top_at(&self, mode: u32) -> Matrix
+        ensures { let p = self.now in
+            result ≡ top_of (current_of p.stacks mode p.tracked.active) }
+    {
+        self.stacks.top(mode, self.tracked.active)
+    }
+
+    /// The number of the recorded error, 0 where there is none (section 2.5).
+    pub(crate) fn error_code(&self) -> u32
+        ensures { result ≡ code_of_error self.now.error }
+    {
+        match self.error {
+            Some(error) => error.code(),
+            None => 0,
+        }
     }
 
     /// How a call is carried out; own.
@@ -144,8 +162,11 @@ impl Private {
     pub fn room(&self, alloc: Global, call: &Call) -> Result<Numbers, NoMemory>
         ensures room { IfOk result (λ numbers.
             numbers ≡ record { items = []; room = most_numbers call.now }) }
+        ensures enough { IfOk result (λ numbers.
+            length (numbers_in (private_reply self.now call.now)) ≤ numbers.room) }
         ensures err { IsErr result → most_numbers call.now ≢ 0 }
     {
+        self.arrays();
         let count = most_numbers(call);
         if count == 0 {
             return Ok(Numbers::none(alloc));
@@ -153,21 +174,30 @@ impl Private {
         Numbers::new(alloc, count)
     }
 
-    /// What a call replies, as the private state shows it just before the call; the numbers go into a room for them. It
-    /// takes no memory (sections 2.5 and 6.1).
-    #[tactic(auto, unfolding(crate::specs::Step::private_reply, crate::specs::Step::most_numbers))]
+    /// Says how long the arrays are that a get may reply: a proof learns it where they are read.
+    fn arrays(&self)
+        ensures { AreArrays self.now }
+    {
+        length_four(&self.settings.colour);
+        length_four(&self.settings.clear_colour);
+        length_four(&self.settings.viewport);
+        length_four(&self.settings.scissor);
+        let _model_view = self.top_at(0x1700).values();
+        let _projection = self.top_at(0x1701).values();
+        let _texture = self.top_at(0x1702).values();
+    }
+
+    /// What a call other than ReadPixels replies, as the private state shows it just before the call; the numbers go into
+    /// a room for them. It takes no memory (sections 2.5 and 6.1).
+    #[tactic(auto, unfolding(crate::specs::Step::private_reply))]
     pub fn reply(&self, call: &Call, room: Numbers) -> Reply
         requires empty { room.items ≡ [] }
-        requires room { most_numbers call.now ≤ room.room }
+        requires room { length (numbers_in (private_reply self.now call.now)) ≤ room.room }
         ensures { replied result ≡ private_reply self.now call.now }
     {
-        let mut numbers = room;
-        match call {
-            Call::GetError => {
-                numbers.push(i64::from(code_of_error(self.error)));
-                Reply::Numbers(numbers)
-            }
-            _ => Reply::Nothing,
+        match self.tracked.fault(call) {
+            Some(_) => Reply::Nothing,
+            None => self.answer(call, room),
         }
     }
 
@@ -213,14 +243,11 @@ fn error_after(error: Option<GlError>, call: &Call) -> Option<GlError>
     }
 }
 
-/// The number of a recorded error, 0 where there is none (section 2.5).
-fn code_of_error(error: Option<GlError>) -> u32
-    ensures { result ≡ code_of_error error }
+/// An array of four numbers is a list of four.
+fn length_four(array: &[i32; 4])
+    ensures { length array.now ≡ 4 }
 {
-    match error {
-        Some(error) => error.code(),
-        None => 0,
-    }
+    let _slice: &[i32] = array;
 }
 
 /// How many numbers a call may reply.
@@ -229,7 +256,9 @@ fn most_numbers(call: &Call) -> u64
     ensures { result ≡ most_numbers call.now }
 {
     match call {
-        Call::GetError => 1,
+        Call::GetError | Call::GetPointerv { .. } | Call::IsEnabled { .. } => 1,
+        Call::GetFixedv { .. } => 16,
+        Call::GetIntegerv { .. } => 4,
         _ => 0,
     }
 }
@@ -239,7 +268,7 @@ fn plan_without_fault(call: &Call) -> Plan
     ensures { result ≡ plan_by None call.now }
 {
     match call {
-        Call::Clear { .. } => Plan::Pixels,
+        Call::Clear { .. } | Call::ReadPixels { .. } => Plan::Pixels,
         _ => Plan::Local,
     }
 }

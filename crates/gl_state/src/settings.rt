@@ -1,8 +1,8 @@
 //! What calls set besides stacks, tracked state and errors: current values, capabilities, masks and the rest.
 
-ghost use Rattle.std.specs.Prelude.{◌≡◌, ◌≤ℤ◌, pos, [], ◌∷◌};
+ghost use Rattle.std.specs.Prelude.{◌≡◌, ◌≤ℤ◌, pos, neg_ℤ, [], ◌∷◌};
 ghost use Rattle.gl_state.specs.Private.{AreSides};
-ghost use Rattle.gl_state.specs.Settings.{clamped_origin, clamped_side, clamped_to_one, clamped_within, first_capabilities, first_settings, one, AreClamped, AreWithinOne};
+ghost use Rattle.gl_state.specs.Settings.{clamped_origin, clamped_side, clamped_to_one, clamped_within, first_capabilities, first_settings, one, AreClamped, AreWithinOne, IsViewport};
 ghost use Rattle.gl_state.specs.Step.{settings_set_by};
 
 use gl_words::Call;
@@ -136,12 +136,7 @@ impl Settings {
                 width,
                 height,
             } => {
-                self.viewport = [
-                    clamped_origin(*x),
-                    clamped_origin(*y),
-                    clamped_side(*width),
-                    clamped_side(*height),
-                ];
+                self.viewport = clamped_viewport(*x, *y, *width, *height);
             }
             _ => {}
         }
@@ -172,14 +167,18 @@ fn clamped_to_one(number: i32) -> i32
 
 /// The place of a viewport, clamped to 1024 pixels from zero (section 2.10.1).
 fn clamped_origin(number: i32) -> i32
-    ensures { result ≡ clamped_origin number }
+    ensures clamped { result ≡ clamped_origin number }
+    ensures low { neg_ℤ (pos 1024) ≤ℤ result }
+    ensures high { result ≤ℤ pos 1024 }
 {
     clamped_within(-1024, 1024, number)
 }
 
 /// The side of a viewport, clamped to 512 pixels (section 2.10.1).
 fn clamped_side(number: i32) -> i32
-    ensures { result ≡ clamped_side number }
+    ensures clamped { result ≡ clamped_side number }
+    ensures low { pos 0 ≤ℤ result }
+    ensures high { result ≤ℤ pos 512 }
 {
     clamped_within(0, 512, number)
 }
@@ -195,5 +194,19 @@ fn clamped_colour(red: i32, green: i32, blue: i32, alpha: i32) -> [i32; 4]
         clamped_to_one(green),
         clamped_to_one(blue),
         clamped_to_one(alpha),
+    ]
+}
+
+/// A viewport with its place and its sides clamped (section 2.10.1).
+fn clamped_viewport(x: i32, y: i32, width: i32, height: i32) -> [i32; 4]
+    ensures viewport { result ≡ clamped_origin x ∷ clamped_origin y ∷
+        clamped_side width ∷ clamped_side height ∷ [] }
+    ensures within { IsViewport result }
+{
+    [
+        clamped_origin(x),
+        clamped_origin(y),
+        clamped_side(width),
+        clamped_side(height),
     ]
 }

@@ -45,6 +45,7 @@ fn the_first_error_stays_until_it_is_asked_for(rt: HostRuntime) -> Result<(), Fa
         ([texture, Call::PushMatrix, Call::PopMatrix], 0),
         ([Call::PopMatrix, unknown, flush], 1284),
         ([unknown, Call::PopMatrix, flush], 1280),
+        ([Call::IsEnabled { cap: 1 }, Call::PopMatrix, flush], 1280),
     ];
     for (calls, error) in rows {
         let mut private = Private::new(0, 4, 4);
@@ -148,10 +149,21 @@ fn what_is_set_is_clamped(rt: HostRuntime) -> Result<(), Fail> {
 }
 
 #[test]
-fn only_a_clear_without_error_needs_pixels(rt: HostRuntime) -> Result<(), Fail> {
+fn only_a_clear_and_a_read_without_error_need_pixels(rt: HostRuntime) -> Result<(), Fail> {
     let private = Private::new(0, 4, 4);
+    let read = |width| Call::ReadPixels {
+        x: 0,
+        y: 0,
+        width,
+        height: 1,
+        format: 0x1908,
+        kind: 0x1401,
+        pixels: 0,
+    };
     let rows = [
         (Call::Clear { mask: 0x4100 }, Plan::Pixels),
+        (read(512), Plan::Pixels),
+        (read(513), Plan::Fault(GlError::InvalidValue)),
         (Call::Clear { mask: 1 }, Plan::Fault(GlError::InvalidValue)),
         (Call::PopMatrix, Plan::Fault(GlError::StackUnderflow)),
         (Call::GetError, Plan::Local),

@@ -1,12 +1,8 @@
-use Rattle.std.proofs.Common.{◌≡◌, ℤ, refl, ap, ◌∙◌, rules, w32, to_z, of_z, SFits}
-use Rattle.std.proofs.lemmas.Int.{to_z-of_z}
+use Rattle.std.proofs.Common.{refl, rules, w32, SFits}
 use Rattle.fixed_transform.proofs.Matrices.{cons_four}
 use Rattle.gl_state.specs.Settings.{clamped_to_one}
+use Rattle.gl_state.proofs.Clamping.{given}
 use Rattle.gl_state.proofs.settings.clamped_colour.Goals as goal
-
--- what a function gives for a number that it was passed
-given : (f : ℤ → ℤ) (x r : ℤ) → SFits w32 x → SFits w32 r → r ≡ f (to_z w32 (of_z w32 x)) → to_z w32 (of_z w32 r) ≡ f x
-given f x r fits_x fits_r is = to_z-of_z w32 r fits_r ∙ is ∙ ap f (to_z-of_z w32 x fits_x)
 
 pub returns-clause-colour : goal.returns-clause-colour
 returns-clause-colour c =

@@ -1,0 +1,90 @@
+-- The numbers that gets give of the private state; section 6.1. Those of tracked state stand in the crate of drivers.
+use Rattle.std.specs.Prelude.{◌≡◌, ℕ, ℤ, pos, ◌==◌, false, if◌then◌else◌, List, [], ◌∷◌, length, slice_index_or, Option, Some, None}
+use Rattle.std.specs.Option.{option_map, option_or}
+use Rattle.fixed_transform.specs.declared.matrix.Matrix.{Matrix}
+use Rattle.fixed_transform.specs.Stack.{top_of}
+use Rattle.driver_trait.specs.Gets.{integer_asked, enabled_asked, number_of_truth}
+use Rattle.gl_state.specs.Private.{PrivateView}
+
+-- what stands beside a name in rows; own
+abbrev pub found_beside : {A : Type 0} → List (ℕ × A) → ℕ → Option A
+found_beside [] name = None
+found_beside ((known, found) ∷ rows) name = if name == known then Some found else found_beside rows name
+
+-- a number as a list of it, where there is one; own
+abbrev pub alone : Option ℤ → Option (List ℤ)
+alone number = option_map (λ one. one ∷ []) number
+
+-- the active unit as its place: 0 for TEXTURE0, else 1; section 3.7.12
+unfoldable pub active_unit : PrivateView → ℕ
+active_unit p = if p.tracked.active == 0x84C0 then 0 else 1
+
+-- the rows of GetIntegerv that give a number of the settings: CULL_FACE_MODE, FRONT_FACE, SHADE_MODEL, DEPTH_FUNC, ALPHA_TEST_FUNC, BLEND_DST, BLEND_SRC, TEXTURE_BINDING_2D; tables 6.9, 6.10, 6.14 and 6.17
+unfoldable pub setting_rows : PrivateView → List (ℕ × ℤ)
+setting_rows p =
+    (0x0B45, pos p.settings.cull_face) ∷
+    (0x0B46, pos p.settings.front_face) ∷
+    (0x0B54, pos p.settings.shade_model) ∷
+    (0x0B74, pos p.settings.depth_func) ∷
+    (0x0BC1, pos p.settings.alpha_func) ∷
+    (0x0BE0, pos p.settings.dest_factor) ∷
+    (0x0BE1, pos p.settings.source_factor) ∷
+    (0x8069, pos (slice_index_or p.settings.bindings (active_unit p) 0)) ∷ []
+
+-- the rows of GetIntegerv that give a limit: MAX_TEXTURE_SIZE and MAX_TEXTURE_UNITS; table 6.20, the values own
+abbrev pub limit_rows : List (ℕ × ℤ)
+limit_rows = (0x0D33, pos 256) ∷ (0x84E2, pos 2) ∷ []
+
+-- the rows of GetIntegerv that give a rectangle: VIEWPORT and SCISSOR_BOX; tables 6.7 and 6.17
+unfoldable pub rectangle_rows : PrivateView → List (ℕ × List ℤ)
+rectangle_rows p = (0x0BA2, p.settings.viewport) ∷ (0x0C10, p.settings.scissor) ∷ []
+
+-- what GetIntegerv gives for a name, if it takes it; section 6.1.1
+unfoldable pub integers_asked : PrivateView → ℕ → Option (List ℤ)
+integers_asked p name =
+    option_or (alone (integer_asked p.tracked name))
+    (option_or (alone (found_beside (setting_rows p) name))
+    (option_or (alone (found_beside limit_rows name)) (found_beside (rectangle_rows p) name)))
+
+-- the top of the active unit's texture stack; section 2.10.2
+unfoldable pub texture_matrix : PrivateView → Matrix
+texture_matrix p = if p.tracked.active == 0x84C0 then top_of p.stacks.texture_zero else top_of p.stacks.texture_one
+
+-- the rows of GetFixedv: CURRENT_COLOR, DEPTH_CLEAR_VALUE, MODELVIEW_MATRIX, PROJECTION_MATRIX, TEXTURE_MATRIX and COLOR_CLEAR_VALUE, matrices by columns; tables 6.4, 6.7 and 6.17
+unfoldable pub fixed_rows : PrivateView → List (ℕ × List ℤ)
+fixed_rows p =
+    (0x0B00, p.settings.colour) ∷
+    (0x0B73, p.settings.clear_depth ∷ []) ∷
+    (0x0BA6, (top_of p.stacks.model_view).values) ∷
+    (0x0BA7, (top_of p.stacks.projection).values) ∷
+    (0x0BA8, (texture_matrix p).values) ∷
+    (0x0C22, p.settings.clear_colour) ∷ []
+
+-- what GetFixedv gives for a name, if it takes it; section 6.1.1
+unfoldable pub fixed_asked : PrivateView → ℕ → Option (List ℤ)
+fixed_asked p name = found_beside (fixed_rows p) name
+
+-- the rows of capabilities, by whether they are enabled: CULL_FACE, DEPTH_TEST, ALPHA_TEST, DITHER, BLEND, SCISSOR_TEST, and TEXTURE_2D of the active unit; tables 6.9, 6.10 and 6.14 to 6.17
+unfoldable pub capability_rows : PrivateView → List (ℕ × ℤ)
+capability_rows p =
+    (0x0B44, number_of_truth p.settings.capabilities.cull_face) ∷
+    (0x0B71, number_of_truth p.settings.capabilities.depth_test) ∷
+    (0x0BC0, number_of_truth p.settings.capabilities.alpha_test) ∷
+    (0x0BD0, number_of_truth p.settings.capabilities.dither) ∷
+    (0x0BE2, number_of_truth p.settings.capabilities.blend) ∷
+    (0x0C11, number_of_truth p.settings.capabilities.scissor_test) ∷
+    (0x0DE1, number_of_truth (slice_index_or p.settings.capabilities.texture_2d (active_unit p) false)) ∷ []
+
+-- what IsEnabled gives for a name, if it takes it: an array's flag or a capability's; section 6.1.1
+unfoldable pub truth_asked : PrivateView → ℕ → Option (List ℤ)
+truth_asked p name = alone (option_or (enabled_asked p.tracked name) (found_beside (capability_rows p) name))
+
+-- the colours and the rectangles that a get may reply have four numbers, and the matrices sixteen; section 6.1
+pub record AreArrays (p : PrivateView) : Type 0 where
+  pub colour : length p.settings.colour ≡ 4
+  pub clear_colour : length p.settings.clear_colour ≡ 4
+  pub viewport : length p.settings.viewport ≡ 4
+  pub scissor : length p.settings.scissor ≡ 4
+  pub model_view : length (top_of p.stacks.model_view).values ≡ 16
+  pub projection : length (top_of p.stacks.projection).values ≡ 16
+  pub texture : length (texture_matrix p).values ≡ 16
