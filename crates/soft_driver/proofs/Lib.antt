@@ -1,1 +1,3 @@
 mod Frames
+mod Replies
+pub mod Readings

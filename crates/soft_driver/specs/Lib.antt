@@ -1,4 +1,5 @@
 pub mod Frame
+pub mod Reading
 pub mod Own
 pub mod Soft
 pub use Rattle.gl_state.specs.Private

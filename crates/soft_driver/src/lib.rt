@@ -2,6 +2,9 @@
 #![tactic(auto)]
 
 mod frame;
+#[cfg(test)]
+mod read_tests;
+mod reading;
 mod soft;
 #[cfg(test)]
 mod tests;

@@ -1,17 +1,20 @@
 //! The driver that carries calls out by itself, in memory. It packs nothing and waits for nobody.
 
-ghost use Rattle.std.specs.Prelude.{◌≡◌, ◌≢◌, ◌<◌, None, IfOk, IsErr, OnErr};
+ghost use Rattle.std.specs.Prelude.{◌≡◌, ◌≢◌, ◌<◌, ◌≤◌, ◌≤ℤ◌, pos, true, None, IfOk, IsErr, OnErr};
 ghost use Rattle.std.specs.Thread.{IsSync};
+ghost use Rattle.gl_words.specs.Call.{is_answering};
 ghost use Rattle.gl_words.specs.declared.call.Call.{Call};
 ghost use Rattle.driver_trait.specs.Fault.{fault_of};
-ghost use Rattle.driver_trait.specs.Reply.{replied};
+ghost use Rattle.driver_trait.specs.Reply.{replied, Bytes};
+ghost use Rattle.driver_trait.specs.Tracked.{IsSound};
 ghost use Rattle.gl_state.specs.Private.{AreSides};
-ghost use Rattle.gl_state.specs.Step.{most_numbers};
-ghost use Rattle.soft_driver.specs.Own.{first_own, frame_by, own_after, own_reply};
+ghost use Rattle.gl_state.specs.Step.{most_numbers, private_reply};
+ghost use Rattle.soft_driver.specs.Frame.{bytes_read};
+ghost use Rattle.soft_driver.specs.Own.{first_own, frame_by, own_after, own_reply, side_of};
 ghost use Rattle.soft_driver.specs.Soft.{own_tracked, OwnSteps, soft_is_driver};
 
 use crate::frame::Frame;
-use driver_trait::{Driver, Machine, Reply};
+use driver_trait::{Driver, Machine, Reply, Tracked};
 use gl_memory::Memory;
 use gl_state::{Plan, Private};
 use gl_words::Call;
@@ -62,20 +65,71 @@ impl Soft {
         self.frame
     }
 
+    /// The tracked part of its state; own.
+    pub fn tracked(&self) -> &Tracked
+        ensures tracked { result.now ≡ self.now.state.tracked }
+        ensures sound { IsSound result.now }
+    {
+        self.state.tracked()
+    }
+
     /// Carries a call out on a memory, and gives its reply. Want of memory leaves the driver as it was, and only a call
-    /// that may reply numbers takes any.
+    /// that is answered takes any.
     #[tactic(auto, unfolding(crate::specs::Own::own_after))]
     pub fn carry_out<M: Memory>(&mut self, call: &Call, memory: &M) -> Result<Reply, NoMemory>
         ensures ok { IfOk result
             (λ reply. OwnSteps self.old call.now (M.segments memory.now) self.new (replied reply)) }
         ensures err { OnErr result (self.new ≡ self.old) }
-        ensures memory { IsErr result → most_numbers call.now ≢ 0 }
+        ensures memory { IsErr result → is_answering call.now ≡ true }
     {
-        let room = self.state.room(self.alloc, call)?;
-        let reply = self.state.reply(call, room);
+        let reply = self.reply(call)?;
         draw(&self.state, &mut self.frame, call);
         self.state.finish(call, memory);
         Ok(reply)
+    }
+
+    /// What a call replies, as the own state shows it just before the call. Only a call that is answered takes memory
+    /// (sections 2.5, 4.3.1 and 6.1).
+    fn reply(&self, call: &Call) -> Result<Reply, NoMemory>
+        ensures reply { IfOk result (λ reply. replied reply ≡ own_reply self.now call.now) }
+        ensures memory { IsErr result → is_answering call.now ≡ true }
+    {
+        match call {
+            Call::ReadPixels {
+                x,
+                y,
+                width,
+                height,
+                ..
+            } => match self.state.plan(call) {
+                Plan::Pixels => self.pixels(*x, *y, *width, *height),
+                _ => Ok(Reply::Nothing),
+            },
+            _ => self.numbers(call),
+        }
+    }
+
+    /// The bytes of a rectangle of pixels, row by row from its lower left corner on, as a reply (section 4.3.1).
+    fn pixels(&self, x: i32, y: i32, width: i32, height: i32) -> Result<Reply, NoMemory>
+        requires wide { width ≤ℤ pos 512 }
+        requires high { height ≤ℤ pos 512 }
+        ensures { IfOk result (λ reply. replied reply
+            ≡ Bytes (bytes_read self.now.frame x y (side_of width) (side_of height))) }
+    {
+        let bytes = self
+            .frame
+            .read(self.alloc, x, y, side(width), side(height))?;
+        Ok(Reply::Bytes(bytes))
+    }
+
+    /// What the private state replies.
+    fn numbers(&self, call: &Call) -> Result<Reply, NoMemory>
+        ensures reply { IfOk result
+            (λ reply. replied reply ≡ private_reply self.now.state call.now) }
+        ensures memory { IsErr result → most_numbers call.now ≢ 0 }
+    {
+        let room = self.state.room(self.alloc, call)?;
+        Ok(self.state.reply(call, room))
     }
 }
 
@@ -88,14 +142,28 @@ impl Machine for Soft {
 }
 
 impl Driver for Soft {
+    /// Carries a call out on a memory, and gives its reply, as `carry_out` does.
     fn call<T: Threads + Sync, M: Memory>(
         &mut self,
         _rt: &T,
         call: &Call,
         memory: &M,
-    ) -> Result<Reply, NoMemory> {
+    ) -> Result<Reply, NoMemory>
+        ensures ok { IfOk result
+            (λ reply. OwnSteps self.old call.now (M.segments memory.now) self.new (replied reply)) }
+        ensures err { OnErr result (self.new ≡ self.old) }
+        ensures memory { IsErr result → is_answering call.now ≡ true }
+    {
         self.carry_out(call, memory)
     }
+}
+
+/// A number without its sign, where it has none; no side that is read is below 0.
+fn side(number: i32) -> u32
+    ensures side { result ≡ side_of number }
+    ensures few { number ≤ℤ pos 512 → result ≤ 512 }
+{
+    if number < 0 { 0 } else { number as u32 }
 }
 
 /// Changes the pixels that a call changes.
