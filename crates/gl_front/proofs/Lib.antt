@@ -1,4 +1,4 @@
 pub mod Cuttings
-pub mod Classes
 pub mod Fronts
 pub mod Failures
+pub mod Captures

@@ -3,7 +3,12 @@ use Rattle.std.specs.Prelude.{◌≡◌, ◌≢◌, ℕ, ◌+◌, ◌-◌, ◌^�
 use Rattle.gl_words.specs.declared.call.Call.{Call}
 use Rattle.batch_pack.specs.declared.class.Class.{Class}
 use Rattle.batch_pack.specs.declared.class.Class.TheVariants.{Answer, Sync, Defer}
-use Rattle.batch_pack.specs.Cutting.{batch_unless_empty}
+use Rattle.batch_pack.specs.Cutting.{Issued, batch_unless_empty}
+use Rattle.client_shadow.specs.Class.{class_of, issued_at}
+use Rattle.driver_trait.specs.declared.tracked.Tracked.{Tracked}
+use Rattle.driver_trait.specs.Output.{memory_after}
+use Rattle.driver_trait.specs.Step.{tracked_after}
+use Rattle.driver_trait.specs.Tracked.{first_tracked}
 use Rattle.batch_pack.specs.Spelling.{Spelled}
 use Rattle.gl_memory.specs.ClientMemory.{memory_of}
 use Rattle.driver_trait.specs.Driver.{Steps}
@@ -12,11 +17,12 @@ use Rattle.gl_front.specs.declared.counts.Counts.{Counts}
 use Rattle.batch_rail.specs.Run.{RunsFrom}
 use Rattle.batch_rail.specs.Rail.{Told}
 
--- a front: its rail, the calls of the open batch with what was captured for them, client memory, whether an issue was refused, and its counts; own
+-- a front: its rail, the calls of the open batch with what was captured for them, client memory, the tracked state that it keeps, whether an issue was refused, and its counts; own
 pub record Fronting (R : Type 0) : Type 0 where
   pub rail : R
   pub calls : List Spelled
   pub memory : List ℕ
+  pub tracked : Tracked
   pub refused : Bool
   pub counts : Counts
 
@@ -26,7 +32,7 @@ no_counts = record { deferred = 0; synchronised = 0; answered = 0; batches = 0 }
 
 -- a front over a rail and client memory, with nothing done yet; own
 abbrev pub new_front : {R : Type 0} → R → List ℕ → Fronting R
-new_front rail memory = record { rail = rail; calls = []; memory = memory; refused = false; counts = no_counts }
+new_front rail memory = record { rail = rail; calls = []; memory = memory; tracked = first_tracked; refused = false; counts = no_counts }
 
 -- a state for which a front may stand: one to which a state of its rail leads by the calls of the open batch; own
 abbrev pub StandsFor : {R S : Type 0} → (R → S → Type 0) → Steps S → Fronting R → S → Type 0
@@ -35,6 +41,23 @@ StandsFor stands steps front st2 = RunsFrom (stands front.rail) steps front.call
 -- each state for which the new front may stand is one to which the call leads on client memory as it was, with this reply, from a state for which the old one may; own
 abbrev pub CarriesOut : {R S : Type 0} → (R → S → Type 0) → Steps S → Fronting R → Fronting R → Call → Replied → Type 0
 CarriesOut {R} {S} stands steps old new call reply = (st2 : S) → StandsFor stands steps new st2 → (st : S) × StandsFor stands steps old st × steps st call (memory_of old.memory) st2 reply
+
+-- each state for which a front may stand has the tracked part that the front keeps; own
+abbrev pub KnowsTracked : {R S : Type 0} → (S → Tracked) → (R → S → Type 0) → Steps S → Fronting R → Type 0
+KnowsTracked {R} {S} tracked stands steps front = (st : S) → StandsFor stands steps front st → tracked st ≡ front.tracked
+
+-- the class of a call that a front is asked to issue, with batches of so many slots; own
+abbrev pub class_at : {R : Type 0} → Fronting R → ℕ → Call → Class
+class_at front size call = class_of front.tracked call (memory_of front.memory) size
+
+-- a call as a front issues it, with batches of so many slots; own
+abbrev pub issued_by : {R : Type 0} → Fronting R → ℕ → Call → Issued
+issued_by front size call = issued_at front.tracked call (memory_of front.memory) size
+
+-- a front noted a call, and wrote its reply into client memory; own
+pub record TakesReply {R : Type 0} (old new : Fronting R) (call : Call) (reply : Replied) : Type 0 where
+  pub tracked : new.tracked ≡ tracked_after old.tracked call (memory_of old.memory)
+  pub memory : new.memory ≡ memory_after old.tracked call reply old.memory
 
 -- from a state for which the front may stand, the call leads somewhere on client memory, with this reply; own
 abbrev pub MayReply : {R S : Type 0} → (R → S → Type 0) → Steps S → Fronting R → Call → Replied → Type 0
@@ -60,6 +83,7 @@ pub record StopsAtCall {R : Type 0} (journal_before journal_after : Option (List
   pub counts : new.counts ≡ counts_flushed old.counts (length (batch_unless_empty old.calls))
   pub journal : Told journal_before journal_after (batch_unless_empty old.calls)
   pub memory : new.memory ≡ old.memory
+  pub tracked : new.tracked ≡ old.tracked
 
 -- a count rises by at most two, and never falls; own
 pub record RisesLittle (old new : ℕ) : Type 0 where

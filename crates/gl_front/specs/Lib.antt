@@ -4,9 +4,12 @@ pub use Rattle.gl_words.specs.Call
 pub use Rattle.gl_memory.specs.ClientMemory
 pub use Rattle.batch_pack.specs.Spelling
 pub use Rattle.batch_pack.specs.Batch
-pub use Rattle.batch_pack.specs.Class
 pub use Rattle.batch_pack.specs.Cutting
 pub use Rattle.driver_trait.specs.Driver
+pub use Rattle.driver_trait.specs.Output
 pub use Rattle.driver_trait.specs.Reply
+pub use Rattle.driver_trait.specs.Step
+pub use Rattle.driver_trait.specs.Tracked
+pub use Rattle.client_shadow.specs.Class
 pub use Rattle.batch_rail.specs.Run
 pub use Rattle.batch_rail.specs.Rail

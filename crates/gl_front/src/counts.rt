@@ -1,15 +1,16 @@
 //! The numbers of a front's calls and batches.
 
-/// How many calls of each class a front was given, and how many batches it submitted; own. A call
-/// that is refused isn't counted.
+/// How many calls of each class a front took, and how many batches it submitted; own. A call
+/// that is refused isn't counted. No bound is kept: `issue`, `defer`, `flush` and `finish` ask that each
+/// number has room, by their conditions.
 #[derive(Clone, Copy, Debug, PartialEq, Eq)]
 pub struct Counts {
-    /// Calls of class Defer; below 2^62.
+    /// Calls of class Defer, which were put off.
     pub deferred: u64,
-    /// Calls of class Sync; below 2^62.
+    /// Calls of class Sync, which waited.
     pub synchronised: u64,
-    /// Calls of class Answer; below 2^62.
+    /// Calls of class Answer, which tracked state answered.
     pub answered: u64,
-    /// Batches submitted; at most 2^62, as a call may submit two.
+    /// Batches submitted: by a call up to two.
     pub batches: u64,
 }

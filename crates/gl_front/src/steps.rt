@@ -3,9 +3,9 @@
 
 ghost use Rattle.std.specs.Prelude.{◌≡◌, ◌≢◌, ◌+◌, ◌-◌, ◌^◌, ◌<◌, ◌≤◌, ◌⊎◌, ◌↔◌, if◌then◌else◌, [], ◌∷◌, ◌++◌, length, IfOk, IsErr, OnOk, OnErr};
 ghost use Rattle.batch_pack.specs.declared.class.Class.TheVariants.{Defer};
-ghost use Rattle.batch_pack.specs.Batch.{IsBatchSize, empty_batch, slots_left};
-ghost use Rattle.batch_pack.specs.Class.{class_of, is_flush};
-ghost use Rattle.batch_pack.specs.Cutting.{batch_unless_empty, joined, cut_before, ended_at, issued, open_after};
+ghost use Rattle.batch_pack.specs.Batch.{captured, empty_batch};
+ghost use Rattle.batch_pack.specs.Class.{is_flush};
+ghost use Rattle.batch_pack.specs.Cutting.{batch_unless_empty, joined, cut_before, ended_by, open_by};
 ghost use Rattle.batch_pack.specs.Spelling.{slots_of};
 ghost use Rattle.batch_rail.specs.Run.{RunsFrom};
 ghost use Rattle.batch_rail.specs.Rail.{Told, StandsForNoMore};
@@ -13,7 +13,7 @@ ghost use Rattle.driver_trait.specs.Reply.{replied};
 ghost use Rattle.gl_memory.specs.ClientMemory.{memory_of};
 ghost use Rattle.gl_front.specs.Front.{FailsOnlyBy};
 
-use batch_pack::{Batch, Full, sends_batch};
+use batch_pack::{Batch, sends_batch};
 use batch_rail::Rail;
 use driver_trait::{Driver, Reply};
 use gl_memory::{ClientMemory, Pieces};
@@ -35,6 +35,7 @@ pub fn submit_unless_empty<T: Threads + Sync, D: Driver, R: Rail<D>>(
     ensures few { result.1 ≤ 1 }
     ensures stands { (st2 : D) → R.stands rail.new st2
         → RunsFrom (R.stands rail.old) D.steps batch.calls st2 }
+    ensures kept { batch_unless_empty batch.calls ≡ [] → rail.new ≡ rail.old }
     ensures failed { FailsOnlyBy (R.failed rail.old) (R.failed rail.new)
         (batch_unless_empty batch.calls) }
     ensures home { R.home rail.new }
@@ -49,16 +50,6 @@ pub fn submit_unless_empty<T: Threads + Sync, D: Driver, R: Rail<D>>(
     (rail.submit(rt, batch), 1)
 }
 
-/// Packs a call, with nothing captured for it. Full exactly where it doesn't fit.
-fn pack(batch: &mut Batch, call: &Call, memory: &ClientMemory) -> Result<(), Full>
-    ensures ok { OnOk result (batch.new
-        ≡ record batch.old { calls = batch.old.calls ++ (issued call.now).spelled ∷ [] }) }
-    ensures full { IsErr result ↔ (slots_left batch.old < slots_of (issued call.now).spelled) }
-    ensures err { OnErr result (batch.new ≡ batch.old) }
-{
-    batch.try_pack(call, &Pieces::new(), memory)
-}
-
 /// Puts a call behind those of the batch, which is submitted first where the call doesn't fit.
 /// Gives the batch with the call, and how many were submitted: 0 or 1.
 fn put_behind<T: Threads + Sync, D: Driver, R: Rail<D>>(
@@ -66,34 +57,39 @@ fn put_behind<T: Threads + Sync, D: Driver, R: Rail<D>>(
     rail: &mut R,
     batch: Batch,
     call: &Call,
+    pieces: &Pieces,
     memory: &ClientMemory,
 ) -> (Batch, u64)
     requires home { R.home rail.old }
-    requires bounds { IsBatchSize batch.size }
+    requires fits { slots_of (captured call.now pieces.now memory.now) ≤ batch.size }
     requires size { batch.size ≡ R.size rail.old }
     requires room { R.sent rail.old < 2 ^ 62 }
+    ensures kept { cut_before batch.size batch.calls (captured call.now pieces.now memory.now) ≡ []
+        → rail.new ≡ rail.old }
     ensures failed { FailsOnlyBy (R.failed rail.old) (R.failed rail.new)
-        (cut_before batch.size batch.calls (issued call.now).spelled) }
+        (cut_before batch.size batch.calls (captured call.now pieces.now memory.now)) }
     ensures size { result.0.size ≡ batch.size }
-    ensures calls { result.0.calls ≡ joined batch.size batch.calls (issued call.now).spelled
-        ++ (issued call.now).spelled ∷ [] }
+    ensures calls { result.0.calls
+        ≡ joined batch.size batch.calls (captured call.now pieces.now memory.now)
+        ++ captured call.now pieces.now memory.now ∷ [] }
     ensures count { result.1
-        ≡ length (cut_before batch.size batch.calls (issued call.now).spelled) }
+        ≡ length (cut_before batch.size batch.calls (captured call.now pieces.now memory.now)) }
     ensures few { result.1 ≤ 1 }
     ensures stands { (st2 : D) → RunsFrom (R.stands rail.new) D.steps result.0.calls st2
-        → RunsFrom (R.stands rail.old) D.steps (batch.calls ++ (issued call.now).spelled ∷ []) st2 }
+        → RunsFrom (R.stands rail.old) D.steps
+        (batch.calls ++ captured call.now pieces.now memory.now ∷ []) st2 }
     ensures home { R.home rail.new }
     ensures rail_size { R.size rail.new ≡ R.size rail.old }
     ensures sent { R.sent rail.new ≡ R.sent rail.old + result.1 }
     ensures journal { Told (R.journal rail.old) (R.journal rail.new)
-        (cut_before batch.size batch.calls (issued call.now).spelled) }
+        (cut_before batch.size batch.calls (captured call.now pieces.now memory.now)) }
 {
     let mut batch = batch;
-    match pack(&mut batch, call, memory) {
+    match batch.try_pack(call, pieces, memory) {
         Ok(()) => (batch, 0),
         Err(_) => {
             let (mut batch, count) = submit_unless_empty(rt, rail, batch);
-            let _packed = pack(&mut batch, call, memory);
+            let _packed = batch.try_pack(call, pieces, memory);
             (batch, count)
         }
     }
@@ -110,6 +106,8 @@ fn submit_if_sent<T: Threads + Sync, D: Driver, R: Rail<D>>(
     requires home { R.home rail.old }
     requires size { batch.size ≡ R.size rail.old }
     requires room { R.sent rail.old < 2 ^ 62 }
+    ensures kept { (if is_flush last.now then batch_unless_empty batch.calls else []) ≡ []
+        → rail.new ≡ rail.old }
     ensures failed { FailsOnlyBy (R.failed rail.old) (R.failed rail.new)
         (if is_flush last.now then batch_unless_empty batch.calls else []) }
     ensures size { result.0.size ≡ batch.size }
@@ -138,28 +136,33 @@ pub fn put_off<T: Threads + Sync, D: Driver, R: Rail<D>>(
     rail: &mut R,
     batch: Batch,
     call: &Call,
+    pieces: &Pieces,
     memory: &ClientMemory,
 ) -> (Batch, u64)
-    requires class { class_of call.now ≡ Defer }
+    requires fits { slots_of (captured call.now pieces.now memory.now) ≤ batch.size }
     requires home { R.home rail.old }
-    requires bounds { IsBatchSize batch.size }
     requires size { batch.size ≡ R.size rail.old }
     requires room { R.sent rail.old < 2 ^ 62 - 1 }
+    ensures kept { ended_by Defer batch.size batch.calls
+        (captured call.now pieces.now memory.now) ≡ [] → rail.new ≡ rail.old }
     ensures failed { FailsOnlyBy (R.failed rail.old) (R.failed rail.new)
-        (ended_at batch.size batch.calls (issued call.now)) }
+        (ended_by Defer batch.size batch.calls (captured call.now pieces.now memory.now)) }
     ensures size { result.0.size ≡ batch.size }
-    ensures calls { result.0.calls ≡ open_after batch.size batch.calls (issued call.now) }
-    ensures count { result.1 ≡ length (ended_at batch.size batch.calls (issued call.now)) }
+    ensures calls { result.0.calls
+        ≡ open_by Defer batch.size batch.calls (captured call.now pieces.now memory.now) }
+    ensures count { result.1 ≡ length
+        (ended_by Defer batch.size batch.calls (captured call.now pieces.now memory.now)) }
     ensures few { result.1 ≤ 2 }
     ensures stands { (st2 : D) → RunsFrom (R.stands rail.new) D.steps result.0.calls st2
-        → RunsFrom (R.stands rail.old) D.steps (batch.calls ++ (issued call.now).spelled ∷ []) st2 }
+        → RunsFrom (R.stands rail.old) D.steps
+        (batch.calls ++ captured call.now pieces.now memory.now ∷ []) st2 }
     ensures home { R.home rail.new }
     ensures rail_size { R.size rail.new ≡ R.size rail.old }
     ensures sent { R.sent rail.new ≡ R.sent rail.old + result.1 }
     ensures journal { Told (R.journal rail.old) (R.journal rail.new)
-        (ended_at batch.size batch.calls (issued call.now)) }
+        (ended_by Defer batch.size batch.calls (captured call.now pieces.now memory.now)) }
 {
-    let (batch, before) = put_behind(rt, rail, batch, call, memory);
+    let (batch, before) = put_behind(rt, rail, batch, call, pieces, memory);
     let (batch, behind) = submit_if_sent(rt, rail, batch, call);
     (batch, before + behind)
 }

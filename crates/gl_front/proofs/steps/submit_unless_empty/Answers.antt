@@ -32,3 +32,10 @@ pub returns-clause-journal : goal.returns-clause-journal
 returns-clause-journal g c =
     let some : 1 ≤ slots_used c.args.batch.calls = omega (arith, c.used.ensures.used) in
     Told-along _ _ _ _ (sym (some_from_slots c.args.batch.calls some)) c.submit.ensures.journal
+
+pub returns-clause-kept : goal.returns-clause-kept
+returns-clause-kept g c =
+    λ none.
+    let some : 1 ≤ slots_used c.args.batch.calls = omega (arith, c.used.ensures.used) in
+    let one = some_from_slots c.args.batch.calls some in
+    absurd (cc)
