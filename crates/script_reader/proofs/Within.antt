@@ -1,20 +1,15 @@
 -- A script that bytes spell is within the limits: what each line that was said adds to those before it.
-use Rattle.std.proofs.Common.{◌≡◌, ℕ, suc, ◌+◌, ◌<◌, ◌≤◌, ℤ, pos, negsuc, nat_abs, Bool, true, false, ◌&&◌, ◌||◌, cond, eqb, ltb, leb, List, [], ◌∷◌, ◌++◌, length, length-append, refl, sym, ap, ◌∙◌, subst, arith, Some, None, Option, Result, Ok, Err, IfOk}
-use Rattle.std.specs.Prelude.{not, ◌==◌, codes}
-use Rattle.std.specs.List.{list_all, list_any, onto_first}
-use Rattle.std.specs.Option.{ok_or}
-use Rattle.std.specs.Str.{bytes_eq}
-use Rattle.std.proofs.lemmas.Bool.{and_parts, or_from, cond_both, ltb-true, ltb-false, leb-true, leb-false, eqb-false}
-use Rattle.std.proofs.lemmas.Option.{cond_some}
-use Rattle.gl_words.specs.CallOf.{call_of}
-use Rattle.gl_words.specs.Shape.{shape_named}
-use Rattle.gl_words.specs.declared.shape.ArgKind.{ArgKind}
-use Rattle.script_reader.specs.Cutting.{lines_of, text_of, words_of}
+use Rattle.std.proofs.Common.{◌≡◌, ℕ, suc, ◌+◌, ◌<◌, ◌≤◌, Bool, true, false, ◌||◌, cond, eqb, ltb, List, [], ◌∷◌, ◌++◌, length, length-append, refl, sym, ap, ◌∙◌, subst, arith, Result, Ok, Err, IfOk}
+use Rattle.std.specs.List.{All, list_any, onto_first, sum_by}
+use Rattle.std.proofs.lemmas.Bool.{or_from, cond_both, ltb-false, leb-false}
+use Rattle.std.proofs.lemmas.List.Elements.{All-nil, All-cons, All-append}
+use Rattle.std.proofs.lemmas.List.Sums.{sum_by-cons, sum_by_push}
+use Rattle.script_reader.specs.Cutting.{lines_of, text_of}
 use Rattle.script_reader.specs.Grammar.{before_of, contexts_in, lines_in, numbered, and_then, all_said, script_of, script_said, is_context, is_end}
 use Rattle.script_reader.specs.Heard.{Reads, after}
-use Rattle.script_reader.specs.Judged.{◌>>=◌, is_within, numbers_of, arguments_of, context_of, judged_header, judged_context, judged_end, judged_call, judged_body, judged_other, judged_counting, is_comment, judged_words, is_text_byte, judged, judged_within}
-use Rattle.script_reader.specs.Number.{decimal_of}
-use Rattle.script_reader.specs.Limits.{IsContext, HasOneContext, IsWithinLimits}
+use Rattle.script_reader.specs.ImageBytes.{context_bytes, line_bytes, said_bytes}
+use Rattle.script_reader.specs.Judged.{◌>>=◌, judged, within_image_bytes, judged_within}
+use Rattle.script_reader.specs.Limits.{IsContext, IsLine, HasOneContext, IsWithinLimits}
 use Rattle.script_reader.specs.declared.before.Before.{Before}
 use Rattle.script_reader.specs.declared.before.Said.{Said}
 use Rattle.script_reader.specs.declared.before.Said.TheVariants.{Nothing, Header, Context, Body, End}
@@ -22,136 +17,28 @@ use Rattle.script_reader.specs.declared.error.ScriptError.{ScriptError}
 use Rattle.script_reader.specs.declared.error.ScriptFault.{ScriptFault}
 use Rattle.script_reader.specs.declared.error.ReadRefusal.{ReadRefusal}
 use Rattle.script_reader.specs.declared.script.ContextSpec.{ContextSpec}
+use Rattle.script_reader.specs.declared.script.Line.{Line}
 use Rattle.script_reader.specs.declared.script.Script.{Script}
-use Rattle.script_reader.proofs.Hearing.{before_of-push, contexts_in-push}
-
--- what a line may say behind those before it: a context only as the first, and `end` only after a context
-abbrev Fits : Before → Said → Type 0
-Fits before (Context context) = IsContext context × (before.contexts < 1)
-Fits before End = before.contexts ≡ 0 → ⊥
-Fits before _ = Unit {0}
-
--- what is said fits, if something is
-record Says (before : Before) (result : Result Said ScriptFault) : Type 0 where
-  fits : (said : Said) → result ≡ Ok said → Fits before said
-
-same_said : (a b : Said) → ◌≡◌ {A = Result Said ScriptFault} (Ok a) (Ok b) → a ≡ b
-same_said a b e = cc
-
-says : (before : Before) (said : Said) → Fits before said → Says before (Ok said)
-says before said fits = record { fits = λ other e. subst (λ (s : Said). Fits before s) (same_said said other e) fits }
-
-says_no : (before : Before) (fault : ScriptFault) → Says before (Err fault)
-says_no before fault = record { fits = λ said e. absurd (cc) }
-
-says_if : (before : Before) (b : Bool) (x y : Result Said ScriptFault) → (b ≡ true → Says before x) → (b ≡ false → Says before y) → Says before (cond b x y)
-says_if before true x y when_true when_false = when_true refl
-says_if before false x y when_true when_false = when_false refl
-
-says_then : {A : Type 0} (before : Before) (o : Option A) (fault : ScriptFault) (next : A → Result Said ScriptFault) → ((value : A) → o ≡ Some value → Says before (next value)) → Says before (ok_or o fault >>= next)
-says_then before None fault next each = says_no before fault
-says_then before (Some value) fault next each = each value refl
-
--- a number within two others that aren't negative
-is_within-bounds : (low high : ℕ) (number : ℤ) → is_within low high number ≡ true → (low ≤ nat_abs number) × (nat_abs number ≤ high)
-is_within-bounds low high (pos number) h =
-    let both : (leb low number ≡ true) × (leb number high ≡ true) = and_parts (leb low number) (leb number high) h in
-    (leb-true low number (both.0), leb-true number high (both.1))
-is_within-bounds low high (negsuc number) h = absurd (cc)
-
-context_is : (others : ℕ) (which width height memory : ℤ) → (is_within others others which && is_within 1 256 width && is_within 1 256 height && is_within 0 1048576 memory) ≡ true → IsContext (record { width = nat_abs width; height = nat_abs height; memory = nat_abs memory })
-context_is others which width height memory h =
-    let all = and_parts (is_within others others which && is_within 1 256 width && is_within 1 256 height) (is_within 0 1048576 memory) h in
-    let sides = and_parts (is_within others others which && is_within 1 256 width) (is_within 1 256 height) (all.0) in
-    let first = and_parts (is_within others others which) (is_within 1 256 width) (sides.0) in
-    let columns = is_within-bounds 1 256 width (first.1) in
-    let rows = is_within-bounds 1 256 height (sides.1) in
-    record {
-      some_columns = columns.0;
-      few_columns = columns.1;
-      some_rows = rows.0;
-      few_rows = rows.1;
-      little_memory = (is_within-bounds 0 1048576 memory (all.1)).1;
-    }
-
-context_of-is : (others : ℕ) (numbers : List ℤ) (context : ContextSpec) → context_of others numbers ≡ Some context → IsContext context
-unfolding context_of
-context_of-is others [] context h = absurd (cc)
-context_of-is others (which ∷ []) context h = absurd (cc)
-context_of-is others (which ∷ width ∷ []) context h = absurd (cc)
-context_of-is others (which ∷ width ∷ height ∷ []) context h = absurd (cc)
-context_of-is others (which ∷ width ∷ height ∷ memory ∷ []) context h =
-    let is = cond_some (is_within others others which && is_within 1 256 width && is_within 1 256 height && is_within 0 1048576 memory) _ _ h in
-    subst (λ (c : ContextSpec). IsContext c) (is.1) (context_is others which width height memory (is.0))
-context_of-is others (which ∷ width ∷ height ∷ memory ∷ more ∷ numbers) context h = absurd (cc)
-
-header_fits : (before : Before) (first : List ℕ) (words : List (List ℕ)) → Says before (judged_header first words)
-unfolding judged_header
-header_fits before first [] = says_no before _
-header_fits before first (second ∷ []) =
-    says_if before (bytes_eq first (codes "glscript") && bytes_eq second (codes "1")) _ _ (λ e. says before Header tt) (λ e. says_no before _)
-header_fits before first (second ∷ third ∷ others) = says_no before _
-
-context_fits : (before : Before) (words : List (List ℕ)) → Says before (judged_context before words)
-unfolding judged_context
-context_fits before words =
-    says_if before before.bodied _ _ (λ e. says_no before _) (λ e.
-    says_if before (not (length words == 4)) _ _ (λ e. says_no before _) (λ e.
-    says_then before (numbers_of words) _ _ (λ numbers e.
-    says_then before (context_of before.contexts numbers) _ _ (λ context is.
-    says_if before (ltb before.contexts 1) _ _ (λ few. says before (Context context) (context_of-is _ _ _ is, ltb-true before.contexts 1 few)) (λ e. says_no before _)))))
-
-end_fits : (before : Before) (words : List (List ℕ)) → Says before (judged_end before words)
-unfolding judged_end
-end_fits before words =
-    says_if before (before.contexts == 0) _ _ (λ e. says_no before _) (λ some.
-    says_if before (length words == 0) _ _ (λ e. says before End (eqb-false before.contexts 0 some)) (λ e. says_no before _))
-
-call_fits : (before : Before) (context id : ℕ) (kinds : List ArgKind) (words : List (List ℕ)) → Says before (judged_call before context id kinds words)
-unfolding judged_call
-call_fits before context id kinds words =
-    says_if before (not (length words == length kinds)) _ _ (λ e. says_no before _) (λ e.
-    says_then before (arguments_of kinds words) _ _ (λ numbers e.
-    says_then before (call_of id numbers) _ _ (λ call e.
-    says_if before (ltb context before.contexts) _ _ (λ e. says before (Body _) tt) (λ e. says_no before _))))
-
-body_fits : (before : Before) (context : ℕ) (words : List (List ℕ)) → Says before (judged_body before context words)
-unfolding judged_body
-body_fits before context [] = says_no before _
-body_fits before context (name ∷ words) =
-    says_then before (shape_named name) _ _ (λ shape e. call_fits before context (shape.0) (shape.1) words)
-
-other_fits : (before : Before) (context : Option ℕ) (words : List (List ℕ)) → Says before (judged_other before context words)
-unfolding judged_other
-other_fits before None words = says_no before _
-other_fits before (Some context) words = body_fits before context words
-
-counting_fits : (before : Before) (first : List ℕ) (words : List (List ℕ)) → Says before (judged_counting before first words)
-unfolding judged_counting
-counting_fits before first words =
-    says_if before before.ended _ _ (λ e. says_no before _) (λ e.
-    says_if before (not before.begun) _ _ (λ e. header_fits before first words) (λ e.
-    says_if before (bytes_eq first (codes "context")) _ _ (λ e. context_fits before words) (λ e.
-    says_if before (bytes_eq first (codes "end")) _ _ (λ e. end_fits before words) (λ e. other_fits before (decimal_of first) words))))
-
-words_fit : (before : Before) (words : List (List ℕ)) → Says before (judged_words before words)
-unfolding judged_words
-words_fit before [] = says before Nothing tt
-words_fit before (first ∷ words) = says_if before (is_comment first) _ _ (λ e. says before Nothing tt) (λ e. counting_fits before first words)
-
-text_fits : (before : Before) (text : List ℕ) → Says before (judged before text)
-unfolding judged
-text_fits before text = says_if before (list_all is_text_byte text) _ _ (λ e. words_fit before (words_of text)) (λ e. says_no before _)
+use Rattle.script_reader.proofs.Fitting.{Fits, same_said, text_fits}
+use Rattle.script_reader.proofs.Hearing.{before_of-push, contexts_in-push, lines_in-push}
 
 -- a test that picks one of two results, of which the first is a refusal
 by_refusal : {A E P : Type 0} (b : Bool) (error : E) (y : Result A E) (value : A) → cond b (Err error) y ≡ Ok value → (b ≡ false → y ≡ Ok value → P) → P
 by_refusal true error y value h next = absurd (cc)
 by_refusal false error y value h next = next refl h
 
--- a line that was said ends within the bytes, is no more than the last line, and fits
+-- what was said keeps to the sum of image bytes
+by_images : {P : Type 0} (before : Before) (result : Result Said ScriptFault) (said : Said) → (result >>= within_image_bytes before) ≡ Ok said → (result ≡ Ok said → before.image_bytes + said_bytes said ≤ 67108864 → P) → P
+by_images before (Err fault) said h next = absurd (cc)
+by_images before (Ok value) said h next =
+    by_refusal (ltb 67108864 (before.image_bytes + said_bytes value)) _ _ said h (λ few same.
+    next same (subst (λ (s : Said). before.image_bytes + said_bytes s ≤ 67108864) (same_said value said same) (ltb-false 67108864 (before.image_bytes + said_bytes value) few)))
+
+-- a line that was said ends within the bytes, is no more than the last line, keeps to the sum of image bytes, and fits
 record IsSaid (at : ℕ) (before : Before) (line : List ℕ) (said : Said) : Type 0 where
   few_bytes : at + length line ≤ 8388608
   few_lines : before.lines < 262144
+  small_images : before.image_bytes + said_bytes said ≤ 67108864
   fits : Fits before said
 
 judged_within-is : (at : ℕ) (before : Before) (line : List ℕ) (said : Said) → judged_within at before line ≡ Ok said → IsSaid at before line said
@@ -159,11 +46,13 @@ unfolding judged_within
 judged_within-is at before line said h =
     by_refusal _ _ _ said h (λ bytes h1.
     by_refusal _ _ _ said h1 (λ lines h2.
+    by_images before (judged before (text_of line)) said h2 (λ is small.
     record {
       few_bytes = ltb-false 8388608 (at + length line) bytes;
       few_lines = leb-false 262144 before.lines lines;
-      fits = (text_fits before (text_of line)).fits said h2;
-    }))
+      small_images = small;
+      fits = (text_fits before (text_of line)).fits said is;
+    })))
 
 -- the contexts of lines that were said: at most one, and one where `end` came
 abbrev IsFew : List ContextSpec → Bool → Type 0
@@ -191,20 +80,41 @@ counted-push n contexts (Context context) h = omega (arith, length-append contex
 counted-push n contexts (Body line) h = omega (arith, length-append contexts [])
 counted-push n contexts End h = omega (arith, length-append contexts [])
 
+-- a body line that was said is within its limits
+lines_in-are : (before : Before) (said : Said) → Fits before said → All IsLine (lines_in (said ∷ []))
+lines_in-are before Nothing fits = All-nil IsLine
+lines_in-are before Header fits = All-nil IsLine
+lines_in-are before (Context context) fits = All-nil IsLine
+lines_in-are before (Body line) fits = All-cons IsLine line [] fits (All-nil IsLine)
+lines_in-are before End fits = All-nil IsLine
+
 -- the lines so far, of which the last ends at this byte
 record AreSaid (at : ℕ) (saids : List Said) : Type 0 where
   few_bytes : at ≤ 8388608
   few_lines : length saids ≤ 262144
+  small_images : sum_by said_bytes saids ≤ 67108864
+  lines : All IsLine (lines_in saids)
   counted : (before_of saids).contexts ≡ length (contexts_in saids)
   few_contexts : IsFew (contexts_in saids) (before_of saids).ended
 
 AreSaid-nothing : AreSaid 0 []
 unfolding before_of
-AreSaid-nothing = record { few_bytes = omega arith; few_lines = omega arith; counted = refl; few_contexts = refl }
+AreSaid-nothing = record {
+  few_bytes = omega arith;
+  few_lines = omega arith;
+  small_images = omega arith;
+  lines = All-nil IsLine;
+  counted = refl;
+  few_contexts = refl;
+}
 
 before_of-lines : (saids : List Said) → (before_of saids).lines ≡ length saids
 unfolding before_of
 before_of-lines saids = refl
+
+before_of-images : (saids : List Said) → (before_of saids).image_bytes ≡ sum_by said_bytes saids
+unfolding before_of
+before_of-images saids = refl
 
 before_of-ended : (saids : List Said) → (before_of saids).ended ≡ list_any is_end saids
 unfolding before_of
@@ -219,6 +129,12 @@ AreSaid-push at saids line said are is =
       few_lines =
           let lines : (before_of saids).lines < 262144 = is.few_lines in
           omega (arith, length-append saids (said ∷ []), before_of-lines saids);
+      small_images =
+          let small : (before_of saids).image_bytes + said_bytes said ≤ 67108864 = is.small_images in
+          omega (arith, sum_by_push said_bytes saids said, before_of-images saids);
+      lines =
+          subst (λ (ls : List Line). All IsLine ls) (sym (lines_in-push saids said))
+          (All-append IsLine (lines_in saids) (lines_in (said ∷ [])) are.lines (lines_in-are (before_of saids) said is.fits));
       counted =
           ap (λ (b : Before). b.contexts) before
           ∙ counted-push ((before_of saids).contexts) (contexts_in saids) said are.counted
@@ -255,10 +171,23 @@ lines_in-few (Context context ∷ saids) = omega (arith, lines_in-few saids)
 lines_in-few (Body line ∷ saids) = omega (arith, lines_in-few saids)
 lines_in-few (End ∷ saids) = omega (arith, lines_in-few saids)
 
+-- the images of contexts and those of body lines are all images
+images_in : (saids : List Said) → sum_by context_bytes (contexts_in saids) + sum_by line_bytes (lines_in saids) ≡ sum_by said_bytes saids
+images_in [] = refl
+images_in (Nothing ∷ saids) = omega (arith, images_in saids, sum_by-cons said_bytes Nothing saids)
+images_in (Header ∷ saids) = omega (arith, images_in saids, sum_by-cons said_bytes Header saids)
+images_in (Context context ∷ saids) =
+    omega (arith, images_in saids, sum_by-cons said_bytes (Context context) saids, sum_by-cons context_bytes context (contexts_in saids))
+images_in (Body line ∷ saids) =
+    omega (arith, images_in saids, sum_by-cons said_bytes (Body line) saids, sum_by-cons line_bytes line (lines_in saids))
+images_in (End ∷ saids) = omega (arith, images_in saids, sum_by-cons said_bytes End saids)
+
 -- all lines were said, and `end` came
 record AllAreSaid (size : ℕ) (saids : List Said) : Type 0 where
   few_bytes : size ≤ 8388608
   few_lines : length saids ≤ 262144
+  small_images : sum_by said_bytes saids ≤ 67108864
+  lines : All IsLine (lines_in saids)
   one_context : HasOneContext (contexts_in saids)
 
 one_where_ended : (contexts : List ContextSpec) (ended : Bool) → IsFew contexts ended → ended ≡ true → HasOneContext contexts
@@ -270,6 +199,8 @@ AllAreSaid-end : (at : ℕ) (saids : List Said) → AreSaid at saids → list_an
 AllAreSaid-end at saids are came = record {
   few_bytes = are.few_bytes;
   few_lines = are.few_lines;
+  small_images = are.small_images;
+  lines = are.lines;
   one_context = one_where_ended (contexts_in saids) ((before_of saids).ended) are.few_contexts (before_of-ended saids ∙ came);
 }
 
@@ -307,7 +238,9 @@ what_is_spelled_is_within bytes script h =
     subst (λ (s : Script). IsWithinLimits bytes s) (same_script _ script made) (record {
       few_bytes = let few : 0 + bytes_in (lines_of bytes) ≤ 8388608 = are.few_bytes in omega (arith, bytes_in-lines_of bytes);
       few_lines = let few : length all ≤ 262144 = are.few_lines in omega (arith, lines_in-few all);
+      lines = are.lines;
       one_context = are.one_context;
+      small_images = let small : sum_by said_bytes all ≤ 67108864 = are.small_images in omega (arith, images_in all);
     }))
 
 -- and so is what a reader gives

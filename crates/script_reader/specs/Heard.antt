@@ -1,5 +1,6 @@
 -- What is kept of the lines that were judged, and what a further line does to it. Not what a line says: `Judged.antt` has that.
 use Rattle.std.specs.Prelude.{◌≡◌, ℕ, ◌+◌, ◌||◌, List, [], ◌∷◌, ◌++◌, Result, Ok, Err, if◌then◌else◌}
+use Rattle.script_reader.specs.ImageBytes.{said_bytes}
 use Rattle.script_reader.specs.Judged.{judged_within}
 use Rattle.script_reader.specs.Grammar.{before_of, contexts_in, lines_in, numbered, says_something, is_context, is_body, is_end}
 use Rattle.script_reader.specs.declared.before.Before.{Before}
@@ -21,6 +22,7 @@ abbrev pub after : Before → Said → Before
 after before said = record {
   lines = before.lines + 1;
   contexts = before.contexts + (if is_context said then 1 else 0);
+  image_bytes = before.image_bytes + said_bytes said;
   begun = before.begun || says_something said;
   bodied = before.bodied || is_body said;
   ended = before.ended || is_end said;

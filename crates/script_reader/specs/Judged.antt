@@ -9,6 +9,9 @@ use Rattle.gl_words.specs.Shape.{shape_named}
 use Rattle.gl_words.specs.declared.shape.ArgKind.{ArgKind}
 use Rattle.gl_words.specs.declared.shape.ArgKind.TheVariants as kinds
 use Rattle.script_reader.specs.Cutting.{words_of, text_of}
+use Rattle.script_reader.specs.Hex.{bytes_of, in_their_room}
+use Rattle.script_reader.specs.ImageBytes.{said_bytes}
+use Rattle.script_reader.specs.Name.{name_of}
 use Rattle.script_reader.specs.Number.{decimal_of, number_of, argument_of}
 use Rattle.script_reader.specs.declared.before.Before.{Before}
 use Rattle.script_reader.specs.declared.before.Said.{Said}
@@ -17,7 +20,8 @@ use Rattle.script_reader.specs.declared.error.ScriptFault.{ScriptFault}
 use Rattle.script_reader.specs.declared.error.ScriptFault.TheVariants.{NotText, BadHeader, UnknownWord, WrongCount, BadNumber, OutOfRange, NoSuchContext, TooMany, AfterEnd}
 use Rattle.script_reader.specs.declared.error.Limit.TheVariants as limits
 use Rattle.script_reader.specs.declared.script.ContextSpec.{ContextSpec}
-use Rattle.script_reader.specs.declared.script.Act.TheVariants.{Gl}
+use Rattle.script_reader.specs.declared.script.Act.{Act}
+use Rattle.script_reader.specs.declared.script.Act.TheVariants.{Mem, Image, Gl}
 
 infixl 10 ◌>>=◌
 -- what comes next, if no test has failed; else the fault of the one that did
@@ -74,20 +78,59 @@ arguments_of [] words = Some []
 arguments_of (kind ∷ kinds) [] = None
 arguments_of (kind ∷ kinds) (word ∷ words) = option_and_then (λ number. option_map (λ numbers. value_of kind number ∷ numbers) (arguments_of kinds words)) (argument_of word)
 
+-- a body line that does this, if its context is there
+abbrev pub body_in : Before → ℕ → Act → Result Said ScriptFault
+body_in before context act = if nat_lt context before.contexts then Ok (Body (record { number = before.lines + 1; context = context; act = act })) else Err NoSuchContext
+
+-- the place in memory that a number names
+abbrev pub address_of : ℤ → Option ℕ
+address_of number = if is_within 0 4294967295 number then Some (nat_abs number) else None
+
+-- `K mem ADDR HEX`, without `K mem`
+unfoldable pub judged_mem : Before → ℕ → List (List ℕ) → Result Said ScriptFault
+judged_mem before context [] = Err WrongCount
+judged_mem before context (place ∷ []) = Err WrongCount
+judged_mem before context (place ∷ digits ∷ []) = do
+  number ← ok_or (number_of place) BadNumber
+  bytes ← ok_or (bytes_of digits) BadNumber
+  at ← ok_or (address_of number) OutOfRange
+  body_in before context (Mem at (in_their_room bytes))
+judged_mem before context (place ∷ digits ∷ more ∷ words) = Err WrongCount
+
+-- the image with this name that three numbers describe
+unfoldable pub image_of : List ℕ → List ℤ → Option Act
+image_of name (width ∷ height ∷ place ∷ []) =
+    if is_within 1 256 width && is_within 1 256 height && is_within 0 4294967295 place
+    then Some (Image name (nat_abs width) (nat_abs height) (nat_abs place))
+    else None
+image_of name _ = None
+
+-- `K image NAME W H ADDR`, without `K image`
+unfoldable pub judged_image : Before → ℕ → List (List ℕ) → Result Said ScriptFault
+judged_image before context [] = Err WrongCount
+judged_image before context (word ∷ words) =
+    if not (length words == 3) then Err WrongCount else (do
+      name ← ok_or (name_of word) BadNumber
+      numbers ← ok_or (numbers_of words) BadNumber
+      image ← ok_or (image_of name numbers) OutOfRange
+      body_in before context image)
+
 -- a call with these number and kinds, and its arguments
 unfoldable pub judged_call : Before → ℕ → ℕ → List ArgKind → List (List ℕ) → Result Said ScriptFault
 judged_call before context id kinds words =
     if not (length words == length kinds) then Err WrongCount else (do
       numbers ← ok_or (arguments_of kinds words) BadNumber
       call ← ok_or (call_of id numbers) OutOfRange
-      if nat_lt context before.contexts then Ok (Body (record { number = before.lines + 1; context = context; act = Gl call })) else Err NoSuchContext)
+      body_in before context (Gl call))
 
--- `K CallName ARGUMENTS`, without K
+-- `K mem ADDR HEX`, `K image NAME W H ADDR` or `K CallName ARGUMENTS`, without K
 unfoldable pub judged_body : Before → ℕ → List (List ℕ) → Result Said ScriptFault
 judged_body before context [] = Err WrongCount
-judged_body before context (name ∷ words) = do
-  shape ← ok_or (shape_named name) UnknownWord
-  judged_call before context shape.0 shape.1 words
+judged_body before context (word ∷ words) =
+    if bytes_eq word (codes "mem") then judged_mem before context words else (
+    if bytes_eq word (codes "image") then judged_image before context words else (do
+      shape ← ok_or (shape_named word) UnknownWord
+      judged_call before context shape.0 shape.1 words))
 
 -- a line that begins with neither `context` nor `end`
 unfoldable pub judged_other : Before → Option ℕ → List (List ℕ) → Result Said ScriptFault
@@ -121,8 +164,13 @@ is_text_byte byte = byte == 9 || (nat_le 32 byte && nat_le byte 126)
 unfoldable pub judged : Before → List ℕ → Result Said ScriptFault
 judged before text = if list_all is_text_byte text then judged_words before (words_of text) else Err NotText
 
--- a line that begins after this many bytes: within 8,388,608 bytes and 262,144 lines it is judged by what it says
+-- what is said, if all images up to this line take at most 67,108,864 bytes
+abbrev pub within_image_bytes : Before → Said → Result Said ScriptFault
+within_image_bytes before said = if nat_lt 67108864 (before.image_bytes + said_bytes said) then Err (TooMany limits.ImageBytes) else Ok said
+
+-- a line that begins after this many bytes: within 8,388,608 bytes and 262,144 lines it is judged by what it says, and last by the bytes of all images
 unfoldable pub judged_within : ℕ → Before → List ℕ → Result Said ScriptFault
 judged_within at before line =
     if nat_lt 8388608 (at + length line) then Err (TooMany limits.SourceBytes) else (
-    if nat_le 262144 before.lines then Err (TooMany limits.Lines) else judged before (text_of line))
+    if nat_le 262144 before.lines then Err (TooMany limits.Lines) else
+    (judged before (text_of line) >>= within_image_bytes before))

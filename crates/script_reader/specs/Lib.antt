@@ -1,10 +1,14 @@
 pub mod Cutting
 pub mod Grammar
 pub mod Heard
+pub mod Hex
+pub mod ImageBytes
 pub mod Judged
 pub mod Limits
 pub mod Name
 pub mod Number
+pub mod Told
+pub use Rattle.driver_trait.specs.Room
 pub use Rattle.gl_words.specs.Call
 pub use Rattle.gl_words.specs.CallOf
 pub use Rattle.gl_words.specs.Kind

@@ -1,5 +1,5 @@
 -- The words that name an image; own.
-use Rattle.std.specs.Prelude.{ℕ, Bool, List, length, nat_le, ◌==◌, ◌&&◌, ◌||◌}
+use Rattle.std.specs.Prelude.{ℕ, Bool, List, Option, Some, None, length, nat_le, ◌==◌, ◌&&◌, ◌||◌, if◌then◌else◌}
 use Rattle.std.specs.List.{list_all}
 
 -- a letter, a digit, `-` or `_`
@@ -11,3 +11,7 @@ is_name_byte byte =
 -- 1 to 32 of them
 abbrev pub is_name : List ℕ → Bool
 is_name word = nat_le 1 (length word) && nat_le (length word) 32 && list_all is_name_byte word
+
+-- the name that a word spells
+abbrev pub name_of : List ℕ → Option (List ℕ)
+name_of word = if is_name word then Some word else None

@@ -1,15 +1,16 @@
 //! What one line says, and what the lines before it have said.
 
-use crate::script::{ContextSpec, Line};
+use crate::script::ContextSpec;
+use crate::told::Told;
 
 /// What a line without fault says.
 #[derive(Drop)]
-pub(crate) enum Said {
+pub(crate) enum Said<'a> {
     /// Nothing: it has no words, or is a comment.
     Nothing,
     Header,
     Context(ContextSpec),
-    Body(Line),
+    Body(Told<'a>),
     End,
 }
 
@@ -20,6 +21,8 @@ pub(crate) struct Before {
     pub(crate) lines: u32,
     /// How many of them are `context` lines.
     pub(crate) contexts: u32,
+    /// How many bytes the images so far take: at most 67,108,864.
+    pub(crate) image_bytes: u32,
     /// The header came.
     pub(crate) begun: bool,
     /// A body line came.

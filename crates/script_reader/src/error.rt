@@ -19,13 +19,13 @@ pub enum ScriptFault {
     /// The first line that counts isn't `glscript 1`, or a `context` or `end` line stands too late or too early.
     #[error("BadHeader")]
     BadHeader,
-    /// The first word begins no line, or the second names no call.
+    /// The first word begins no line, or the second is neither `mem`, `image` nor the name of a call.
     #[error("UnknownWord")]
     UnknownWord,
     /// There are too many words, or too few.
     #[error("WrongCount")]
     WrongCount,
-    /// A word spells no number, and in a call no name of one.
+    /// A word isn't a spelling of its kind: a number, in a call a name of one, bytes, or the name of an image.
     #[error("BadNumber")]
     BadNumber,
     /// A number is outside its range.

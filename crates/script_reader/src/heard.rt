@@ -3,13 +3,14 @@
 ghost use Rattle.std.specs.Prelude.{◌≡◌, ℕ, ◌+◌, ◌^◌, ◌<◌, ◌≤◌, List, [], ◌∷◌, ◌++◌, length, OnOk, OnErr, IfErr};
 ghost use Rattle.script_reader.specs.declared.before.Said.{Said};
 ghost use Rattle.script_reader.specs.declared.error.ReadRefusal.TheVariants.{NoMemory};
-ghost use Rattle.script_reader.specs.Grammar.{contexts_in, lines_in};
+ghost use Rattle.script_reader.specs.Grammar.{contexts_in, lines_in, says_something, is_context, is_body, is_end};
+ghost use Rattle.script_reader.specs.ImageBytes.{said_bytes};
 ghost use Rattle.script_reader.specs.Heard.{IsHeard, HearsLine, RefusesLine, after};
 
 use crate::before::{Before, Said};
 use crate::contexts::Contexts;
 use crate::error::{ReadRefusal, ScriptError};
-use crate::line::judge_within;
+use crate::line::{image_bytes_said, judge_within};
 use crate::lines::Lines;
 use std::alloc::{AllocError, Global};
 
@@ -33,6 +34,7 @@ pub(crate) fn nothing_heard(alloc: Global) -> Heard
         before: Before {
             lines: 0,
             contexts: 0,
+            image_bytes: 0,
             begun: false,
             bodied: false,
             ended: false,
@@ -41,7 +43,12 @@ pub(crate) fn nothing_heard(alloc: Global) -> Heard
 }
 
 /// Takes the next line, which begins after this many bytes, with its line end.
-pub(crate) fn hear_line(heard: &mut Heard, at: usize, line: &[u8]) -> Result<(), ReadRefusal>
+pub(crate) fn hear_line(
+    heard: &mut Heard,
+    alloc: Global,
+    at: usize,
+    line: &[u8],
+) -> Result<(), ReadRefusal>
     requires place { at + length line.now < 2 ^ 64 }
     requires few { heard.old.before.contexts ≤ heard.old.before.lines }
     requires lines { heard.old.before.lines ≤ 262144 }
@@ -51,7 +58,7 @@ pub(crate) fn hear_line(heard: &mut Heard, at: usize, line: &[u8]) -> Result<(),
     ensures err { IfErr result (RefusesLine heard.old at line.now) }
 {
     match judge_within(at, heard.before, line) {
-        Ok(said) => hear(heard, said),
+        Ok(said) => hear(heard, alloc, said),
         Err(fault) => Err(ReadRefusal::Bad(ScriptError {
             line: heard.before.lines + 1,
             fault,
@@ -59,18 +66,19 @@ pub(crate) fn hear_line(heard: &mut Heard, at: usize, line: &[u8]) -> Result<(),
     }
 }
 
-fn hear(heard: &mut Heard, said: Said) -> Result<(), ReadRefusal>
+fn hear(heard: &mut Heard, alloc: Global, said: Said<'_>) -> Result<(), ReadRefusal>
     requires lines { heard.old.before.lines < 262144 }
+    requires images { heard.old.before.image_bytes + said_bytes said ≤ 67108864 }
     requires few { heard.old.before.contexts ≤ heard.old.before.lines }
     ensures contexts { OnOk result
-        (heard.new.contexts ≡ heard.old.contexts ++ contexts_in (said ∷ [])) }
-    ensures kept { OnOk result (heard.new.lines ≡ heard.old.lines ++ lines_in (said ∷ [])) }
-    ensures before { OnOk result (heard.new.before ≡ after heard.old.before said) }
+        (heard.new.contexts ≡ heard.old.contexts ++ contexts_in (said.entry ∷ [])) }
+    ensures kept { OnOk result (heard.new.lines ≡ heard.old.lines ++ lines_in (said.entry ∷ [])) }
+    ensures before { OnOk result (heard.new.before ≡ after heard.old.before said.entry) }
     ensures few { OnOk result (heard.new.before.contexts ≤ heard.new.before.lines) }
     ensures err { IfErr result (λ e. e ≡ NoMemory) }
 {
     let before = before_after(heard.before, &said);
-    match keep(&mut heard.contexts, &mut heard.lines, said) {
+    match keep(&mut heard.contexts, &mut heard.lines, alloc, said) {
         Ok(()) => {}
         Err(_) => return Err(ReadRefusal::NoMemory),
     }
@@ -78,65 +86,59 @@ fn hear(heard: &mut Heard, said: Said) -> Result<(), ReadRefusal>
     Ok(())
 }
 
-fn keep(contexts: &mut Contexts, lines: &mut Lines, said: Said) -> Result<(), AllocError>
-    ensures contexts { OnOk result (contexts.new ≡ contexts.old ++ contexts_in (said ∷ [])) }
-    ensures lines { OnOk result (lines.new ≡ lines.old ++ lines_in (said ∷ [])) }
+fn keep(
+    contexts: &mut Contexts,
+    lines: &mut Lines,
+    alloc: Global,
+    said: Said<'_>,
+) -> Result<(), AllocError>
+    ensures contexts { OnOk result (contexts.new ≡ contexts.old ++ contexts_in (said.entry ∷ [])) }
+    ensures lines { OnOk result (lines.new ≡ lines.old ++ lines_in (said.entry ∷ [])) }
 {
     match said {
         Said::Context(context) => contexts.push(context),
-        Said::Body(line) => lines.push(line),
+        Said::Body(told) => lines.push(told.into_line(alloc)?),
         Said::Nothing | Said::Header | Said::End => Ok(()),
     }
 }
 
-fn before_after(before: Before, said: &Said) -> Before
+fn before_after(before: Before, said: &Said<'_>) -> Before
     requires lines { before.lines < 262144 }
     requires few { before.contexts ≤ before.lines }
+    requires images { before.image_bytes + said_bytes said.now ≤ 67108864 }
     ensures gives { result ≡ after before said.now }
     ensures few { result.contexts ≤ result.lines }
 {
-    let Before {
-        lines,
-        contexts,
-        begun,
-        bodied,
-        ended,
-    } = before;
-    match said {
-        Said::Nothing => Before {
-            lines: lines + 1,
-            contexts,
-            begun,
-            bodied,
-            ended,
-        },
-        Said::Header => Before {
-            lines: lines + 1,
-            contexts,
-            begun: true,
-            bodied,
-            ended,
-        },
-        Said::Context(_) => Before {
-            lines: lines + 1,
-            contexts: contexts + 1,
-            begun: true,
-            bodied,
-            ended,
-        },
-        Said::Body(_) => Before {
-            lines: lines + 1,
-            contexts,
-            begun: true,
-            bodied: true,
-            ended,
-        },
-        Said::End => Before {
-            lines: lines + 1,
-            contexts,
-            begun: true,
-            bodied,
-            ended: true,
-        },
+    Before {
+        lines: before.lines + 1,
+        contexts: before.contexts + u32::from(is_context(said)),
+        image_bytes: before.image_bytes + image_bytes_said(said) as u32,
+        begun: before.begun | says_something(said),
+        bodied: before.bodied | is_body(said),
+        ended: before.ended | is_end(said),
     }
+}
+
+fn says_something(said: &Said<'_>) -> bool
+    ensures { result ≡ says_something said.now }
+{
+    !matches!(said, Said::Nothing)
+}
+
+fn is_context(said: &Said<'_>) -> bool
+    ensures { result ≡ is_context said.now }
+{
+    matches!(said, Said::Context(_))
+}
+
+fn is_body(said: &Said<'_>) -> bool
+    ensures { result ≡ is_body said.now }
+{
+    matches!(said, Said::Body(_))
+}
+
+fn is_end(said: &Said<'_>) -> bool
+    ensures { result ≡ is_end said.now }
+{
+    matches!(said, Said::End)
 }

@@ -2,10 +2,12 @@
 #![tactic(auto)]
 
 mod before;
+mod body;
 mod contexts;
 mod cutting;
 mod error;
 mod heard;
+mod hex;
 mod line;
 mod lines;
 mod name;
@@ -15,6 +17,7 @@ mod reader;
 mod script;
 #[cfg(test)]
 mod tests;
+mod told;
 mod words;
 
 pub use contexts::Contexts;

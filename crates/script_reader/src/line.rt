@@ -1,23 +1,22 @@
 //! One line judged: what it says, or the first test that it fails. The tests stand in the order of the
-//! definitions.
+//! definitions. A body line is judged in `body.rt`.
 
-ghost use Rattle.std.specs.Prelude.{◌≡◌, ℕ, ◌+◌, ◌^◌, ◌<◌, ◌≤◌, List, [], ◌∷◌, ℤ, pos, int_le, ◌&&◌, length, IfSome, OnOk, Ok, if◌then◌else◌};
+ghost use Rattle.std.specs.Prelude.{◌≡◌, ℕ, ◌+◌, ◌^◌, ◌<◌, ◌≤◌, List, [], ◌∷◌, length, IfOk, OnOk, Ok, if◌then◌else◌};
 ghost use Rattle.std.specs.List.{list_all};
-ghost use Rattle.std.specs.Option.{option_map};
-ghost use Rattle.gl_words.specs.Shape.{shape_named, seen_shape};
 ghost use Rattle.script_reader.specs.Cutting.{words_of};
-ghost use Rattle.script_reader.specs.Judged.{judged_header, numbers_of, context_of, judged_context, judged_end, value_of, arguments_of, judged_call, judged_body, judged_other, judged_counting, judged_words, is_comment, is_text_byte, judged, judged_within};
+ghost use Rattle.script_reader.specs.ImageBytes.{said_bytes};
+ghost use Rattle.script_reader.specs.Judged.{judged_header, context_of, judged_context, judged_end, judged_other, judged_counting, judged_words, is_comment, is_text_byte, judged, judged_within, within_image_bytes};
 ghost use Rattle.script_reader.specs.declared.before.Said.TheVariants.{Nothing};
 
 use crate::before::{Before, Said};
+use crate::body::judge_body;
 use crate::cutting::text_in;
 use crate::error::{Limit, ScriptFault};
-use crate::number::{argument_from, decimal_from, number_from};
-use crate::numbers::Numbers;
-use crate::script::{Act, ContextSpec, Line};
+use crate::number::{decimal_from, is_between};
+use crate::numbers::numbers_from;
+use crate::script::ContextSpec;
+use crate::told::image_bytes_of;
 use crate::words::{count_words, next_word};
-use gl_words::{ArgKind, Shape, call_from, shape_of_name};
-use std::str::from_utf8;
 
 /// The most bytes of a source; own.
 const SOURCE_BYTES: usize = 8_388_608;
@@ -25,12 +24,16 @@ const SOURCE_BYTES: usize = 8_388_608;
 /// The most lines, those that say nothing included; own.
 const LINES: u32 = 262_144;
 
+/// The most bytes that the images of a script take; own.
+const IMAGE_BYTES: u64 = 67_108_864;
+
 /// Judges a line that begins after this many bytes, with its line end.
 #[tactic(auto, unfolding(crate::specs::Judged::judged_within))]
-pub(crate) fn judge_within(at: usize, before: Before, line: &[u8]) -> Result<Said, ScriptFault>
+pub(crate) fn judge_within(at: usize, before: Before, line: &[u8]) -> Result<Said<'_>, ScriptFault>
     requires { at + length line.now < 2 ^ 64 }
     ensures gives { result ≡ judged_within at before line.now }
     ensures few { OnOk result (before.lines < 262144) }
+    ensures images { IfOk result (λ said. before.image_bytes + said_bytes said ≤ 67108864) }
 {
     if SOURCE_BYTES < at + line.len() {
         return Err(ScriptFault::TooMany(Limit::SourceBytes));
@@ -38,13 +41,41 @@ pub(crate) fn judge_within(at: usize, before: Before, line: &[u8]) -> Result<Sai
     if LINES <= before.lines {
         return Err(ScriptFault::TooMany(Limit::Lines));
     }
-    judge(before, text_in(line))
+    match judge(before, text_in(line)) {
+        Ok(said) => within_image_bytes(before, said),
+        Err(fault) => Err(fault),
+    }
+}
+
+fn within_image_bytes(before: Before, said: Said<'_>) -> Result<Said<'_>, ScriptFault>
+    requires small { said_bytes said ≤ 196608 }
+    ensures gives { result ≡ within_image_bytes before said.entry }
+    ensures images { IfOk result (λ said. before.image_bytes + said_bytes said ≤ 67108864) }
+{
+    if IMAGE_BYTES < u64::from(before.image_bytes) + image_bytes_said(&said) {
+        Err(ScriptFault::TooMany(Limit::ImageBytes))
+    } else {
+        Ok(said)
+    }
+}
+
+/// How many bytes the image takes that comes of what a line says.
+pub(crate) fn image_bytes_said(said: &Said<'_>) -> u64
+    requires { said_bytes said.now < 2 ^ 64 }
+    ensures { result ≡ said_bytes said.now }
+{
+    match said {
+        Said::Context(context) => image_bytes_of(context.width, context.height),
+        Said::Body(told) => told.image_bytes(),
+        Said::Nothing | Said::Header | Said::End => 0,
+    }
 }
 
 #[tactic(auto, unfolding(crate::specs::Judged::judged))]
-fn judge(before: Before, text: &[u8]) -> Result<Said, ScriptFault>
+fn judge(before: Before, text: &[u8]) -> Result<Said<'_>, ScriptFault>
     requires { before.lines < 262144 }
-    ensures { result ≡ judged before text.now }
+    ensures gives { result ≡ judged before text.now }
+    ensures small { IfOk result (λ said. said_bytes said ≤ 196608) }
 {
     if is_text(text) {
         judge_words(before, text)
@@ -61,7 +92,7 @@ fn is_text(text: &[u8]) -> bool
 }
 
 #[tactic(auto, unfolding(crate::specs::Judged::judged_words))]
-fn judge_words(before: Before, text: &[u8]) -> Result<Said, ScriptFault>
+fn judge_words(before: Before, text: &[u8]) -> Result<Said<'_>, ScriptFault>
     requires { before.lines < 262144 }
     ensures { result ≡ judged_words before (words_of text.now) }
 {
@@ -71,7 +102,7 @@ fn judge_words(before: Before, text: &[u8]) -> Result<Said, ScriptFault>
     }
 }
 
-fn judge_first(before: Before, first: &[u8], rest: &[u8]) -> Result<Said, ScriptFault>
+fn judge_first<'a>(before: Before, first: &'a [u8], rest: &'a [u8]) -> Result<Said<'a>, ScriptFault>
     requires { before.lines < 262144 }
     ensures { result ≡ (if is_comment first.now then Ok Nothing
         else judged_counting before first.now (words_of rest.now)) }
@@ -83,7 +114,11 @@ fn judge_first(before: Before, first: &[u8], rest: &[u8]) -> Result<Said, Script
 }
 
 #[tactic(auto, unfolding(crate::specs::Judged::judged_counting))]
-fn judge_counting(before: Before, first: &[u8], rest: &[u8]) -> Result<Said, ScriptFault>
+fn judge_counting<'a>(
+    before: Before,
+    first: &'a [u8],
+    rest: &'a [u8],
+) -> Result<Said<'a>, ScriptFault>
     requires { before.lines < 262144 }
     ensures { result ≡ judged_counting before first.now (words_of rest.now) }
 {
@@ -103,7 +138,7 @@ fn judge_counting(before: Before, first: &[u8], rest: &[u8]) -> Result<Said, Scr
 }
 
 #[tactic(auto, unfolding(crate::specs::Judged::judged_header))]
-fn judge_header(first: &[u8], rest: &[u8]) -> Result<Said, ScriptFault>
+fn judge_header<'a>(first: &'a [u8], rest: &'a [u8]) -> Result<Said<'a>, ScriptFault>
     ensures { result ≡ judged_header first.now (words_of rest.now) }
 {
     let Some((second, rest)) = next_word(rest) else {
@@ -117,7 +152,7 @@ fn judge_header(first: &[u8], rest: &[u8]) -> Result<Said, ScriptFault>
 }
 
 #[tactic(auto, unfolding(crate::specs::Judged::judged_context))]
-fn judge_context(before: Before, rest: &[u8]) -> Result<Said, ScriptFault>
+fn judge_context(before: Before, rest: &[u8]) -> Result<Said<'_>, ScriptFault>
     ensures { result ≡ judged_context before (words_of rest.now) }
 {
     if before.bodied {
@@ -133,22 +168,6 @@ fn judge_context(before: Before, rest: &[u8]) -> Result<Said, ScriptFault>
     } else {
         Err(ScriptFault::TooMany(Limit::Contexts))
     }
-}
-
-fn numbers_from(text: &[u8]) -> Option<Numbers>
-    requires { length (words_of text.now) ≤ 9 }
-    ensures { result ≡ numbers_of (words_of text.now) }
-{
-    let mut numbers = Numbers::new();
-    let mut rest = text;
-    while let Some((word, after)) = next_word(rest) {
-        let Some(number) = number_from(word) else {
-            return None;
-        };
-        numbers.push(number);
-        rest = after;
-    }
-    Some(numbers)
 }
 
 #[tactic(auto, unfolding(crate::specs::Judged::context_of))]
@@ -190,14 +209,8 @@ fn context_spec(
     })
 }
 
-fn is_between(low: i64, high: i64, number: i64) -> bool
-    ensures { result ≡ (int_le low number && int_le number high) }
-{
-    low <= number && number <= high
-}
-
 #[tactic(auto, unfolding(crate::specs::Judged::judged_end))]
-fn judge_end(before: Before, rest: &[u8]) -> Result<Said, ScriptFault>
+fn judge_end(before: Before, rest: &[u8]) -> Result<Said<'_>, ScriptFault>
     ensures { result ≡ judged_end before (words_of rest.now) }
 {
     if before.contexts == 0 {
@@ -211,86 +224,12 @@ fn judge_end(before: Before, rest: &[u8]) -> Result<Said, ScriptFault>
 }
 
 #[tactic(auto, unfolding(crate::specs::Judged::judged_other))]
-fn judge_other(before: Before, context: Option<u64>, rest: &[u8]) -> Result<Said, ScriptFault>
+fn judge_other(before: Before, context: Option<u64>, rest: &[u8]) -> Result<Said<'_>, ScriptFault>
     requires { before.lines < 262144 }
     ensures { result ≡ judged_other before context (words_of rest.now) }
 {
     match context {
         None => Err(ScriptFault::UnknownWord),
         Some(context) => judge_body(before, context, rest),
-    }
-}
-
-#[tactic(auto, unfolding(crate::specs::Judged::judged_body))]
-fn judge_body(before: Before, context: u64, rest: &[u8]) -> Result<Said, ScriptFault>
-    requires { before.lines < 262144 }
-    ensures { result ≡ judged_body before context (words_of rest.now) }
-{
-    let Some((name, rest)) = next_word(rest) else {
-        return Err(ScriptFault::WrongCount);
-    };
-    match shape_from(name) {
-        Some(shape) => judge_call(before, context, shape, rest),
-        None => Err(ScriptFault::UnknownWord),
-    }
-}
-
-fn shape_from(name: &[u8]) -> Option<Shape>
-    ensures gives { option_map seen_shape result ≡ shape_named name.now }
-    ensures few { IfSome result (λ shape. length shape.kinds.now ≤ 9) }
-{
-    match from_utf8(name) {
-        Ok(name) => shape_of_name(name),
-        Err(_) => None,
-    }
-}
-
-#[tactic(auto, unfolding(crate::specs::Judged::judged_call))]
-fn judge_call(before: Before, context: u64, shape: Shape, rest: &[u8]) -> Result<Said, ScriptFault>
-    requires few { length shape.kinds.now ≤ 9 }
-    requires line { before.lines < 262144 }
-    ensures { result ≡ judged_call before context shape.id shape.kinds.now (words_of rest.now) }
-{
-    if count_words(rest) != shape.kinds.len() {
-        return Err(ScriptFault::WrongCount);
-    }
-    let numbers = arguments_from(shape.kinds, rest).ok_or(ScriptFault::BadNumber)?;
-    let call = call_from(shape.id, numbers.as_slice()).ok_or(ScriptFault::OutOfRange)?;
-    if context < u64::from(before.contexts) {
-        Ok(Said::Body(Line {
-            number: before.lines + 1,
-            context: context as u32,
-            act: Act::Gl(call),
-        }))
-    } else {
-        Err(ScriptFault::NoSuchContext)
-    }
-}
-
-fn arguments_from(kinds: &[ArgKind], text: &[u8]) -> Option<Numbers>
-    requires { length kinds.now ≤ 9 }
-    ensures { result ≡ arguments_of kinds.now (words_of text.now) }
-{
-    let mut numbers = Numbers::new();
-    let mut rest = text;
-    for kind in kinds {
-        let Some((word, after)) = next_word(rest) else {
-            return None;
-        };
-        let Some(number) = argument_from(word) else {
-            return None;
-        };
-        numbers.push(value_from(*kind, number));
-        rest = after;
-    }
-    Some(numbers)
-}
-
-fn value_from(kind: ArgKind, number: i64) -> i64
-    ensures { result ≡ value_of kind number }
-{
-    match kind {
-        ArgKind::Bool if 1 <= number && number <= 255 => 1,
-        _ => number,
     }
 }

@@ -1,6 +1,6 @@
-//! Words as numbers. Whether a number is in its range is asked in `line.rt`.
+//! Words as numbers. Whether a number is in its range is asked in `line.rt` and `body.rt`.
 
-ghost use Rattle.std.specs.Prelude.{◌≡◌, ℕ, ◌+◌, ◌-◌, ◌*◌, ◌^◌, ◌<◌, ◌≤◌, pos, neg_ℤ, length, IfSome, IsTrue};
+ghost use Rattle.std.specs.Prelude.{◌≡◌, ℕ, ◌+◌, ◌-◌, ◌*◌, ◌^◌, ◌<◌, ◌≤◌, pos, neg_ℤ, int_le, ◌&&◌, length, IfSome, IsTrue};
 ghost use Rattle.std.specs.Option.{option_map};
 ghost use Rattle.std.specs.List.{list_all};
 ghost use Rattle.std.specs.Char.{is_ascii_digit, is_ascii_hexdigit};
@@ -55,7 +55,7 @@ fn hexadecimal_from(word: &[u8]) -> Option<u64>
     }
 }
 
-fn all_hexadecimal(word: &[u8]) -> bool
+pub(crate) fn all_hexadecimal(word: &[u8]) -> bool
     ensures { result ≡ list_all is_ascii_hexdigit word.now }
 {
     word.iter().all(|digit| digit.is_ascii_hexdigit())
@@ -69,20 +69,21 @@ fn hexadecimal_number(word: &[u8]) -> u64
 {
     let mut number = 0;
     for digit in word {
-        number = 16 * number + digit_value(*digit);
+        number = 16 * number + u64::from(digit_value(*digit));
     }
     number
 }
 
-fn digit_value(digit: u8) -> u64
+/// What a hexadecimal digit stands for.
+pub(crate) fn digit_value(digit: u8) -> u8
     requires { IsTrue (is_ascii_hexdigit digit) }
     ensures gives { result ≡ hex_digit digit }
     ensures small { result < 16 }
 {
     match digit {
-        b'0'..=b'9' => u64::from(digit - b'0'),
-        b'a'..=b'f' => u64::from(digit - b'a' + 10),
-        _ => u64::from(digit - b'A' + 10),
+        b'0'..=b'9' => digit - b'0',
+        b'a'..=b'f' => digit - b'a' + 10,
+        _ => digit - b'A' + 10,
     }
 }
 
@@ -138,4 +139,11 @@ fn named(word: &[u8]) -> Option<u64>
         Ok(name) => Some(u64::from(number_of_enum(name)?)),
         Err(_) => None,
     }
+}
+
+/// Whether a number lies between two others, or is one of them.
+pub(crate) fn is_between(low: i64, high: i64, number: i64) -> bool
+    ensures { result ≡ (int_le low number && int_le number high) }
+{
+    low <= number && number <= high
 }

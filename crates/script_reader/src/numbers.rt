@@ -1,7 +1,11 @@
 //! The numbers of one line.
 
 ghost use Rattle.std.specs.Prelude.{◌≡◌, ℕ, ◌<◌, ◌≤◌, List, [], ◌∷◌, ◌++◌, ℤ, length, take};
+ghost use Rattle.script_reader.specs.Cutting.{words_of};
+ghost use Rattle.script_reader.specs.Judged.{numbers_of};
 
+use crate::number::number_from;
+use crate::words::next_word;
 use std::marker::Model;
 
 /// The most arguments that a call has.
@@ -45,4 +49,21 @@ impl Numbers {
     {
         &self.items[..self.count]
     }
+}
+
+/// The numbers that words spell, if each spells one.
+pub(crate) fn numbers_from(text: &[u8]) -> Option<Numbers>
+    requires { length (words_of text.now) ≤ 9 }
+    ensures { result ≡ numbers_of (words_of text.now) }
+{
+    let mut numbers = Numbers::new();
+    let mut rest = text;
+    while let Some((word, after)) = next_word(rest) {
+        let Some(number) = number_from(word) else {
+            return None;
+        };
+        numbers.push(number);
+        rest = after;
+    }
+    Some(numbers)
 }

@@ -37,7 +37,7 @@ fn read_all(alloc: Global, bytes: &[u8]) -> Result<Script, ReadRefusal>
     let mut rest = bytes;
     while !rest.is_empty() {
         let (line, after) = first_line(rest);
-        match hear_line(&mut heard, at, line) {
+        match hear_line(&mut heard, alloc, at, line) {
             Ok(()) => {}
             Err(refusal) => return Err(refusal),
         }

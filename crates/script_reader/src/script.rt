@@ -1,7 +1,9 @@
-//! What a script says. How it is spelled is in `line.rt`.
+//! What a script says. How it is spelled is in `line.rt` and `body.rt`.
 
 use crate::contexts::Contexts;
 use crate::lines::Lines;
+use crate::name::Name;
+use driver_trait::Octets;
 use gl_words::Call;
 
 /// A script: its contexts, and the lines that are carried out, in order.
@@ -21,7 +23,7 @@ pub struct ContextSpec {
 }
 
 /// A line that is carried out: its number in the script, from 1, and its context, from 0.
-#[derive(Drop, Debug, PartialEq, Eq)]
+#[derive(Drop)]
 pub struct Line {
     pub number: u32,
     pub context: u32,
@@ -29,8 +31,20 @@ pub struct Line {
 }
 
 /// What a line does.
-#[derive(Drop, Debug, PartialEq, Eq)]
+#[derive(Drop)]
 pub enum Act {
+    /// Writes bytes, of which there is one at least, into client memory from a place on. Their room is for just so many.
+    Mem {
+        at: u32,
+        bytes: Octets,
+    },
+    /// Takes an image out of client memory from a place on: its sides in pixels, 1 to 256.
+    Image {
+        name: Name,
+        width: u32,
+        height: u32,
+        at: u32,
+    },
     /// Calls OpenGL ES.
     Gl(Call),
 }

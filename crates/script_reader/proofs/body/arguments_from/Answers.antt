@@ -5,7 +5,7 @@ use Rattle.script_reader.specs.Judged.{arguments_of, value_of}
 use Rattle.gl_words.specs.declared.shape.ArgKind.TheVariants.{Enum}
 use Rattle.script_reader.specs.Cutting.{words_of}
 use Rattle.script_reader.proofs.Fronts.{behind, arguments_short, arguments_stop, arguments_step, arguments_done}
-use Rattle.script_reader.proofs.line.arguments_from.Goals as goal
+use Rattle.script_reader.proofs.body.arguments_from.Goals as goal
 
 pub returns-in_default : goal.returns-in_default
 returns-in_default c =

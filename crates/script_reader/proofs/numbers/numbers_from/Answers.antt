@@ -4,7 +4,7 @@ use Rattle.std.proofs.lemmas.Int.{to_z-of_z}
 use Rattle.script_reader.specs.Judged.{numbers_of}
 use Rattle.script_reader.specs.Cutting.{words_of}
 use Rattle.script_reader.proofs.Fronts.{behind, numbers_stop, numbers_step, numbers_done}
-use Rattle.script_reader.proofs.line.numbers_from.Goals as goal
+use Rattle.script_reader.proofs.numbers.numbers_from.Goals as goal
 
 pub returns-in_default-number_from : goal.returns-in_default-number_from
 returns-in_default-number_from c =

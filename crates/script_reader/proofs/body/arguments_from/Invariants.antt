@@ -3,7 +3,7 @@ use Rattle.std.proofs.Common.{◌≡◌, length, drop}
 use Rattle.script_reader.specs.Cutting.{words_of}
 use Rattle.script_reader.specs.Judged.{arguments_of}
 use Rattle.script_reader.proofs.Fronts.{behind}
-use Rattle.script_reader.proofs.line.arguments_from.Given as goal
+use Rattle.script_reader.proofs.body.arguments_from.Given as goal
 
 abbrev pub invariant-loop-kind : goal.invariant-loop-kind
 invariant-loop-kind l = record {

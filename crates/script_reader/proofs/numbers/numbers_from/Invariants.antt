@@ -3,7 +3,7 @@ use Rattle.std.proofs.Common.{◌≡◌, ◌+◌, ◌≤◌, length}
 use Rattle.script_reader.specs.Cutting.{words_of}
 use Rattle.script_reader.specs.Judged.{numbers_of}
 use Rattle.script_reader.proofs.Fronts.{behind}
-use Rattle.script_reader.proofs.line.numbers_from.Given as goal
+use Rattle.script_reader.proofs.numbers.numbers_from.Given as goal
 
 abbrev pub invariant-loop-word : goal.invariant-loop-word
 invariant-loop-word l = record {
