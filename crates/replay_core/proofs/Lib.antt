@@ -1,11 +1,15 @@
 pub mod CountLemmas
 pub mod Delivery
 pub mod DirectLemmas
+pub mod Directs
+pub mod Endings
 pub mod Images
 pub mod JournalLemmas
+pub mod NameLemmas
 pub mod Outcomes
 pub mod Rails
 pub mod Reports
-pub mod RunLemmas
-pub mod Tallies
+pub mod Running
+pub mod Taking
+pub mod Tellings
 pub mod WordList

@@ -1,9 +1,8 @@
 -- What a run leaves, from what its parts leave.
-use Rattle.std.proofs.Common.{◌≡◌, ℕ, ◌+◌, ◌<◌, ◌≤◌, List, [], ◌∷◌, ◌++◌, length, take, Option, Some, None, Ok, Err, sym, ap, subst, ◌∙◌, arith, inl, inr, ◌⊎◌}
+use Rattle.std.proofs.Common.{◌≡◌, ℕ, ◌+◌, ◌<◌, ◌≤◌, List, ◌++◌, length, take, Option, Some, None, Ok, Err, sym, ap, subst, ◌∙◌, arith, inl, inr, ◌⊎◌}
 use Rattle.std.proofs.lemmas.List.{take_all}
 use Rattle.std.proofs.lemmas.Bool.{cases_lt}
 use Rattle.std.proofs.Math.Seq.{take-append_seam}
-use Rattle.gl_outside.proofs.Outside.{Adds-nil}
 use Rattle.gl_outside.specs.Moved.{Takes, Adds, AddsPart, IsAtEnd}
 use Rattle.replay_core.specs.declared.status.Status.{Status}
 use Rattle.replay_core.specs.declared.status.Status.TheVariants.{Ok as Done, ShelfFault, WriteFault, NoMemory}
@@ -18,9 +17,8 @@ use Rattle.script_reader.proofs.Within.{what_is_spelled_is_within}
 use Rattle.replay_core.specs.declared.words.Command.{Command}
 use Rattle.replay_core.specs.Report.{report_for}
 use Rattle.batch_pack.specs.Spelling.{Spelled}
-use Rattle.replay_core.specs.Images.{images_of, frame_of, frame_name}
+use Rattle.replay_core.specs.Images.{images_of}
 use Rattle.replay_core.specs.Journals.{batches_for, Journals}
-use Rattle.replay_core.specs.Direct.{final_own}
 use Rattle.replay_core.specs.Outcome.{most_bytes, ReadsScript, ReadsNoScript, Replays, PutsSome, WritesSome, StopsAnywhere}
 
 -- a script has no more bytes than it may have
@@ -71,46 +69,39 @@ accepted_is_read left bytes after script within taken whole accepted =
     ap (λ bs. script_of bs) (read_is_take (most_bytes + 1) left bytes after within taken whole ∙ all) ∙ accepted
 
 -- what all that was put and written is, where a run ends well
-pub replays : (command : Command) (status : Status) (lb la hb ha : Option (List ℕ)) (sb sa : Option (List (List ℕ × List ℕ))) (jb ja : ℕ → Option (List (List Spelled))) (script : Script) (image report : List ℕ) → status ≡ Done → ReadsScript lb la script → Journals (batches_for command (seen_script script)) jb ja → image ≡ frame_of (final_own (seen_script script)).frame → report ≡ report_for command (seen_script script) → Delivers status hb ha sb sa ((frame_name, image) ∷ []) report → Replays command lb la hb ha sb sa jb ja
-unfolding images_of
-replays command status lb la hb ha sb sa jb ja script image report is_done read handed_over is_image is_report delivers =
-    let P : Status → Type 0 = λ s. Delivers s hb ha sb sa ((frame_name, image) ∷ []) report in
-    let done : Delivers Done hb ha sb sa ((frame_name, image) ∷ []) report = subst P is_done delivers in
+pub replays : (command : Command) (status : Status) (lb la hb ha : Option (List ℕ)) (sb sa : Option (List (List ℕ × List ℕ))) (jb ja : ℕ → Option (List (List Spelled))) (script : Script) (images : List (List ℕ × List ℕ)) (report : List ℕ) → status ≡ Done → ReadsScript lb la script → Journals (batches_for command (seen_script script)) jb ja → images ≡ images_of (seen_script script) → report ≡ report_for command (seen_script script) → Delivers status hb ha sb sa images report → Replays command lb la hb ha sb sa jb ja
+replays command status lb la hb ha sb sa jb ja script images report is_done read handed_over are_images is_report delivers =
+    let done : Delivers Done hb ha sb sa images report = subst (λ (s : Status). Delivers s hb ha sb sa images report) is_done delivers in
     let W : List ℕ → Type 0 = λ r. Adds hb ha r in
-    let I : List ℕ → Type 0 = λ i. Adds sb sa ((frame_name, i) ∷ []) in
-    record { script = script; read = read; written = subst W is_report done.0; put = subst I is_image done.1; handed_over = handed_over }
+    let I : List (List ℕ × List ℕ) → Type 0 = λ i. Adds sb sa i in
+    record { script = script; read = read; written = subst W is_report done.0; put = subst I are_images done.1; handed_over = handed_over }
 
 -- what stands after a put that failed
-pub puts_some : (command : Command) (status : Status) (lb la hb ha : Option (List ℕ)) (sb sa : Option (List (List ℕ × List ℕ))) (jb ja : ℕ → Option (List (List Spelled))) (script : Script) (image report : List ℕ) (stored : ℕ) → status ≡ ShelfFault stored → ReadsScript lb la script → Journals (batches_for command (seen_script script)) jb ja → Delivers status hb ha sb sa ((frame_name, image) ∷ []) report → PutsSome command lb la sb sa jb ja stored
-unfolding images_of
-puts_some command status lb la hb ha sb sa jb ja script image report stored is_fault read handed_over delivers =
-    let P : Status → Type 0 = λ s. Delivers s hb ha sb sa ((frame_name, image) ∷ []) report in
-    let stands = subst P is_fault delivers in
-    let none : stored ≡ 0 = stands.0 in
-    let A : Option (List (List ℕ × List ℕ)) → Type 0 = λ l. Adds sb l [] in
-    let T : ℕ → Type 0 = λ n. Adds sb sa (take n ((frame_name, frame_of (final_own (seen_script script)).frame) ∷ [])) in
-    record { script = script; read = read; fewer = omega arith; put = subst T (sym none) (subst A (sym stands.1.listed) (Adds-nil sb)); handed_over = handed_over }
+pub puts_some : (command : Command) (status : Status) (lb la hb ha : Option (List ℕ)) (sb sa : Option (List (List ℕ × List ℕ))) (jb ja : ℕ → Option (List (List Spelled))) (script : Script) (images : List (List ℕ × List ℕ)) (report : List ℕ) (stored : ℕ) → status ≡ ShelfFault stored → ReadsScript lb la script → Journals (batches_for command (seen_script script)) jb ja → images ≡ images_of (seen_script script) → report ≡ report_for command (seen_script script) → Delivers status hb ha sb sa images report → PutsSome command lb la sb sa jb ja stored
+puts_some command status lb la hb ha sb sa jb ja script images report stored is_fault read handed_over are_images is_report delivers =
+    let stands : Delivers (ShelfFault stored) hb ha sb sa images report = subst (λ (s : Status). Delivers s hb ha sb sa images report) is_fault delivers in
+    let I : List (List ℕ × List ℕ) → Type 0 = λ i. Adds sb sa (take stored i) in
+    let F : List (List ℕ × List ℕ) → Type 0 = λ i. stored < length i in
+    record { script = script; read = read; fewer = subst F are_images stands.1.some_missing; put = subst I are_images stands.1.put; handed_over = handed_over }
 
 -- what stands after a write that failed
-pub writes_some : (command : Command) (status : Status) (lb la hb ha : Option (List ℕ)) (sb sa : Option (List (List ℕ × List ℕ))) (jb ja : ℕ → Option (List (List Spelled))) (script : Script) (image report : List ℕ) → status ≡ WriteFault → ReadsScript lb la script → Journals (batches_for command (seen_script script)) jb ja → image ≡ frame_of (final_own (seen_script script)).frame → report ≡ report_for command (seen_script script) → Delivers status hb ha sb sa ((frame_name, image) ∷ []) report → WritesSome command lb la hb ha sb sa jb ja
-unfolding images_of
-writes_some command status lb la hb ha sb sa jb ja script image report is_fault read handed_over is_image is_report delivers =
-    let P : Status → Type 0 = λ s. Delivers s hb ha sb sa ((frame_name, image) ∷ []) report in
-    let stands = subst P is_fault delivers in
+pub writes_some : (command : Command) (status : Status) (lb la hb ha : Option (List ℕ)) (sb sa : Option (List (List ℕ × List ℕ))) (jb ja : ℕ → Option (List (List Spelled))) (script : Script) (images : List (List ℕ × List ℕ)) (report : List ℕ) → status ≡ WriteFault → ReadsScript lb la script → Journals (batches_for command (seen_script script)) jb ja → images ≡ images_of (seen_script script) → report ≡ report_for command (seen_script script) → Delivers status hb ha sb sa images report → WritesSome command lb la hb ha sb sa jb ja
+writes_some command status lb la hb ha sb sa jb ja script images report is_fault read handed_over are_images is_report delivers =
+    let stands : Delivers WriteFault hb ha sb sa images report = subst (λ (s : Status). Delivers s hb ha sb sa images report) is_fault delivers in
     let W : List ℕ → Type 0 = λ r. AddsPart hb ha r in
-    let I : List ℕ → Type 0 = λ i. Adds sb sa ((frame_name, i) ∷ []) in
-    record { script = script; read = read; written = subst W is_report stands.written; put = subst I is_image stands.put; handed_over = handed_over }
+    let I : List (List ℕ × List ℕ) → Type 0 = λ i. Adds sb sa i in
+    record { script = script; read = read; written = subst W is_report stands.written; put = subst I are_images stands.put; handed_over = handed_over }
 
 -- what stands where memory was refused
-pub stops_anywhere : (command : Command) (status : Status) (lb la hb ha : Option (List ℕ)) (sb sa : Option (List (List ℕ × List ℕ))) (jb ja : ℕ → Option (List (List Spelled))) (script : Script) (image report : List ℕ) → status ≡ NoMemory → ReadsScript lb la script → Journals (batches_for command (seen_script script)) jb ja → image ≡ frame_of (final_own (seen_script script)).frame → report ≡ report_for command (seen_script script) → Delivers status hb ha sb sa ((frame_name, image) ∷ []) report → StopsAnywhere command lb la hb ha sb sa jb ja
-unfolding images_of
-stops_anywhere command status lb la hb ha sb sa jb ja script image report is_none read handed_over is_image is_report delivers =
-    let P : Status → Type 0 = λ s. Delivers s hb ha sb sa ((frame_name, image) ∷ []) report in
+pub stops_anywhere : (command : Command) (status : Status) (lb la hb ha : Option (List ℕ)) (sb sa : Option (List (List ℕ × List ℕ))) (jb ja : ℕ → Option (List (List Spelled))) (script : Script) (images : List (List ℕ × List ℕ)) (report : List ℕ) → status ≡ NoMemory → ReadsScript lb la script → Journals (batches_for command (seen_script script)) jb ja → images ≡ images_of (seen_script script) → report ≡ report_for command (seen_script script) → Delivers status hb ha sb sa images report → StopsAnywhere command lb la hb ha sb sa jb ja
+stops_anywhere command status lb la hb ha sb sa jb ja script images report is_none read handed_over are_images is_report delivers =
     let W : List ℕ → Type 0 = λ r. AddsPart hb ha r in
-    let I : List ℕ → Type 0 = λ i. Adds sb sa ((frame_name, i) ∷ []) in
-    elim (subst P is_none delivers) [
-      | inl leaves ↦ inl (leaves, record { some = read.bytes; taken = read.taken; few = omega (arith, script_fits read.bytes script read.is_script) })
-      | inr stands ↦ inr (record { script = script; read = read; written = subst W is_report stands.written; put = subst I is_image stands.put; handed_over = handed_over })
+    let I : List (List ℕ × List ℕ) → Type 0 = λ i. Adds sb sa i in
+    let B : List (List ℕ × List ℕ) → Type 0 = λ i. AddsPart sb sa i in
+    let stands : Delivers NoMemory hb ha sb sa images report = subst (λ (s : Status). Delivers s hb ha sb sa images report) is_none delivers in
+    elim stands [
+      | inl first ↦ inr (inl (first.0, record { script = script; read = read; put = subst B are_images first.1; handed_over = handed_over }))
+      | inr all ↦ inr (inr (record { script = script; read = read; written = subst W is_report all.written; put = subst I are_images all.put; handed_over = handed_over }))
     ]
 
 -- contexts that are one within the limits of a script

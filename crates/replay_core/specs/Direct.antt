@@ -1,44 +1,49 @@
--- The direct machine: it carries out each call as its line is read. It knows no batch, slot, class or front; own.
-use Rattle.std.specs.Prelude.{ℕ, ℤ, List, [], ◌∷◌, ◌++◌, map, replicate}
-use Rattle.driver_trait.specs.Reply.{Replied, Nothing, Numbers, Bytes}
+-- The direct machine: it carries out each line as it is read. It knows client memory, own states and replies, and no batch, slot, class or front; own.
+use Rattle.std.specs.Prelude.{◌≡◌, ℕ, List, [], ◌∷◌, ◌++◌, replicate}
+use Rattle.gl_memory.specs.ClientMemory.{memory_of, written}
+use Rattle.driver_trait.specs.Output.{memory_after}
+use Rattle.script_reader.specs.declared.script.Act.{Act}
+use Rattle.script_reader.specs.declared.script.Act.TheVariants.{Mem, Image, Gl}
 use Rattle.script_reader.specs.declared.script.Line.{Line}
-use Rattle.replay_core.specs.declared.lines.Answer.{Answer}
-use Rattle.replay_core.specs.Script.{Scripted, call_on}
-use Rattle.gl_memory.specs.ClientMemory.{memory_of}
 use Rattle.soft_driver.specs.Own.{Own, first_own, own_after, own_reply}
+use Rattle.replay_core.specs.Lines.{Moment, lines_in, taken_bytes}
+use Rattle.replay_core.specs.Results.{Told, Picture, told_of}
+use Rattle.replay_core.specs.Script.{Scripted}
 
--- what the report tells of the numbers that a line's call replied: each, in order; own
-unfoldable pub told_numbers : Line → List ℤ → List Answer
-told_numbers line numbers = map (λ number. record { line = line.number; call = call_on line; number = number }) numbers
+-- where the direct machine has come to: the context's own state, client memory, what was told, and the moments of the calls so far; own
+pub record Reached : Type 0 where
+  pub own : Own
+  pub memory : List ℕ
+  pub told : List Told
+  pub moments : List Moment
 
--- what the report tells of a line whose call had this reply; own
-abbrev pub told_of : Line → Replied → List Answer
-told_of line Nothing = []
-told_of line (Numbers numbers) = told_numbers line numbers
-told_of line (Bytes bytes) = []
+-- after a line of this number that does this; own
+abbrev pub after_act : Reached → ℕ → Act → Reached
+after_act here number (Mem at bytes) = record here { memory = written here.memory at bytes.items }
+after_act here number (Image name width height at) =
+    record here { told = here.told ++ record { number = number; shown = Picture (taken_bytes here.memory width height at) } ∷ [] }
+after_act here number (Gl call) = record {
+  own = own_after here.own call (memory_of here.memory);
+  memory = memory_after here.own.state.tracked call (own_reply here.own call) here.memory;
+  told = here.told ++ told_of number call (own_reply here.own call);
+  moments = here.moments ++ record { tracked = here.own.state.tracked; memory = here.memory; call = call } ∷ [];
+}
 
--- the own state of a context after lines, on client memory of these bytes; own
-unfoldable pub own_after_lines : List ℕ → Own → List Line → Own
-own_after_lines bytes own [] = own
-own_after_lines bytes own (line ∷ lines) = own_after_lines bytes (own_after own (call_on line) (memory_of bytes)) lines
+-- after lines, one after another; own
+unfoldable pub after_lines : Reached → List Line → Reached
+after_lines here [] = here
+after_lines here (line ∷ lines) = after_lines (after_act here line.number line.act) lines
 
--- the answers of lines, in order; own
-unfoldable pub answers_of : List ℕ → Own → List Line → List Answer
-answers_of bytes own [] = []
-answers_of bytes own (line ∷ lines) = told_of line (own_reply own (call_on line)) ++ answers_of bytes (own_after own (call_on line) (memory_of bytes)) lines
+-- the start of a script's context: a new own state of number 0, and client memory of zeros; own
+abbrev pub start_of : Scripted → Reached
+start_of script = record { own = first_own 0 script.width script.height; memory = replicate script.memory 0; told = []; moments = [] }
 
--- the context of a script at the start: of number 0; own
-abbrev pub start_of : Scripted → Own
-start_of script = first_own 0 script.width script.height
+-- the end of a script; own
+unfoldable pub end_of : Scripted → Reached
+end_of script = after_lines (start_of script) (lines_in 0 script.lines)
 
--- client memory at the start: zeros; own
-abbrev pub first_bytes : Scripted → List ℕ
-first_bytes script = replicate script.memory 0
-
--- the context at the end of a script; own
-unfoldable pub final_own : Scripted → Own
-final_own script = own_after_lines (first_bytes script) (start_of script) script.lines
-
--- the answers of a script; own
-unfoldable pub script_answers : Scripted → List Answer
-script_answers script = answers_of (first_bytes script) (start_of script) script.lines
+-- the direct machine has come to this own state, this client memory, and has told this; own
+pub record IsAfter (here : Reached) (own : Own) (memory : List ℕ) (told : List Told) : Type 0 where
+  pub is_own : own ≡ here.own
+  pub is_memory : memory ≡ here.memory
+  pub is_told : told ≡ here.told

@@ -1,16 +1,18 @@
 -- Which batches a command hands over to rails; own.
-use Rattle.std.specs.Prelude.{ℕ, List, [], Option}
+use Rattle.std.specs.Prelude.{ℕ, List, [], map, Option}
 use Rattle.batch_pack.specs.Cutting.{batches_from}
 use Rattle.batch_pack.specs.Spelling.{Spelled}
 use Rattle.batch_rail.specs.Maker.{KeepsOthers}
 use Rattle.batch_rail.specs.Rail.{Told}
 use Rattle.replay_core.specs.declared.words.Command.{Command}
 use Rattle.replay_core.specs.declared.words.Command.TheVariants.{Run, Direct}
-use Rattle.replay_core.specs.Script.{Scripted, calls_of}
+use Rattle.replay_core.specs.Direct.{end_of}
+use Rattle.replay_core.specs.Lines.{issued_in}
+use Rattle.replay_core.specs.Script.{Scripted}
 
 -- the batches of a script, each of at most so many slots; own
 abbrev pub batches_of : ℕ → Scripted → List (List Spelled)
-batches_of size script = batches_from size [] (calls_of script.lines)
+batches_of size script = batches_from size [] (map (issued_in size) (end_of script).moments)
 
 -- the batches that a command hands over: of `run` those of the script, of `direct` none; own
 abbrev pub batches_for : Command → Scripted → List (List Spelled)

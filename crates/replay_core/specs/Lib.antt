@@ -1,10 +1,12 @@
 pub mod Deliver
 pub mod Direct
 pub mod Images
+pub mod Journals
 pub mod Lines
 pub mod Outcome
 pub mod Report
-pub mod Journals
+pub mod Results
+pub mod Running
 pub mod Script
 pub mod Status
 pub mod Words

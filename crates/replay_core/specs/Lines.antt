@@ -1,42 +1,56 @@
--- What lines lead to, over any driver's relation, and how they are counted; own.
-use Rattle.std.specs.Prelude.{◌≡◌, ℕ, ◌+◌, ◌^◌, ◌<◌, ◌≤◌, List, [], ◌∷◌, ◌++◌, length, Option}
-use Rattle.batch_pack.specs.declared.class.Class.TheVariants.{Answer as AnswerClass, Sync, Defer}
-use Rattle.batch_pack.specs.Cutting.{Issued, batch_unless_empty, batches_from, count_of}
+-- What lines lead to, over any driver's relation; own. No batch, shadow, capture or class stands here but in how a call is issued.
+use Rattle.std.specs.Prelude.{◌≡◌, ℕ, ◌+◌, ◌*◌, ◌^◌, ◌<◌, ◌≤◌, ◌==◌, List, [], ◌∷◌, ◌++◌, filter}
+use Rattle.gl_words.specs.declared.call.Call.{Call}
+use Rattle.gl_memory.specs.ClientMemory.{memory_of, written}
+use Rattle.gl_memory.specs.Piece.{bytes_from}
+use Rattle.batch_pack.specs.Cutting.{Issued}
+use Rattle.client_shadow.specs.Class.{issued_at}
+use Rattle.driver_trait.specs.declared.tracked.Tracked.{Tracked}
 use Rattle.driver_trait.specs.Driver.{Steps}
+use Rattle.driver_trait.specs.Output.{memory_after}
 use Rattle.driver_trait.specs.Reply.{Replied}
-use Rattle.gl_memory.specs.ClientMemory.{memory_of}
-use Rattle.batch_pack.specs.Spelling.{Spelled}
 use Rattle.gl_front.specs.declared.counts.Counts.{Counts}
-use Rattle.batch_rail.specs.Rail.{Told}
-use Rattle.replay_core.specs.Script.{call_on}
+use Rattle.script_reader.specs.declared.script.Act.{Act}
+use Rattle.script_reader.specs.declared.script.Act.TheVariants.{Mem, Image, Gl}
 use Rattle.script_reader.specs.declared.script.Line.{Line}
-use Rattle.replay_core.specs.declared.lines.Answer.{Answer}
-use Rattle.replay_core.specs.Direct.{told_of}
+use Rattle.replay_core.specs.Results.{Told, Picture, told_of}
 
--- the lines lead from a state to a state with these answers, each line's call carried out as it stands on client memory; own
-abbrev pub Lines : {S : Type 0} → Steps S → List ℕ → S → List Line → S → List Answer → Type 0
-Lines steps memory st [] st2 done = (st2 ≡ st) × (done ≡ [])
-Lines {S} steps memory st (line ∷ lines) st2 done =
-    (mid : S) × (reply : Replied) × (others : List Answer) × steps st (call_on line) (memory_of memory) mid reply × (done ≡ told_of line reply ++ others) × Lines steps memory mid lines st2 others
+-- a moment just before a call: the tracked state, client memory, and the call; own
+pub record Moment : Type 0 where
+  pub tracked : Tracked
+  pub memory : List ℕ
+  pub call : Call
 
--- the answers were extended by those with which the lines lead to each state that is stood for, from one that was; own
-pub record RunsLines {S : Type 0} (starts : S → Type 0) (steps : Steps S) (memory : List ℕ) (lines : List Line) (ends : S → Type 0) (old new : List Answer) : Type 0 where
-  pub done : List Answer
-  pub extended : new ≡ old ++ done
-  pub leads : (st2 : S) → ends st2 → (st : S) × starts st × Lines steps memory st lines st2 done
+-- a call as it is issued at a moment, with batches of so many slots; own. Needed for counts and journals alone
+abbrev pub issued_in : ℕ → Moment → Issued
+issued_in size moment = issued_at moment.tracked moment.call (memory_of moment.memory) size
 
--- the counts rose by the numbers of these calls, the batch that stands open aside; own
-pub record CountsCalls (size : ℕ) (old_open new_open : List Spelled) (calls : List Issued) (old new : Counts) : Type 0 where
-  pub deferred : new.deferred ≡ old.deferred + count_of Defer calls
-  pub synchronised : new.synchronised ≡ old.synchronised + count_of Sync calls
-  pub answered : new.answered ≡ old.answered + count_of AnswerClass calls
-  pub batches : new.batches + length (batch_unless_empty new_open) ≡ old.batches + length (batches_from size old_open calls)
+-- the lines of a context, in order; own
+abbrev pub lines_in : ℕ → List Line → List Line
+lines_in context lines = filter (λ line. line.context == context) lines
 
--- a journal that is told was extended by the batches of these calls, the batch that stands open aside; own
-pub record TellsCalls (size : ℕ) (old_open new_open : List Spelled) (calls : List Issued) (old new : Option (List (List Spelled))) : Type 0 where
-  pub given : List (List Spelled)
-  pub told : Told old new given
-  pub rest : given ++ batch_unless_empty new_open ≡ batches_from size old_open calls
+-- the bytes that an image of these sides takes out of client memory, four a pixel; own
+abbrev pub taken_bytes : List ℕ → ℕ → ℕ → ℕ → List ℕ
+taken_bytes memory width height at = bytes_from (memory_of memory) at (width * height * 4)
+
+module _ {S : Type 0} (tracked : S → Tracked) (steps : Steps S) where
+  -- what a line of this number does: a mem line writes client memory, an image line takes an image out of it, and a call is carried out on it as it stands, and then its reply is written; own
+  abbrev pub LineStep : ℕ → Act → S → List ℕ → S → List ℕ → List Told → List Moment → Type 0
+  LineStep number (Mem at bytes) st memory st2 memory2 told moments =
+      (st2 ≡ st) × (memory2 ≡ written memory at bytes.items) × (told ≡ []) × (moments ≡ [])
+  LineStep number (Image name width height at) st memory st2 memory2 told moments =
+      (st2 ≡ st) × (memory2 ≡ memory) × (told ≡ record { number = number; shown = Picture (taken_bytes memory width height at) } ∷ []) × (moments ≡ [])
+  LineStep number (Gl call) st memory st2 memory2 told moments =
+      (reply : Replied) × steps st call (memory_of memory) st2 reply × (memory2 ≡ memory_after (tracked st) call reply memory)
+      × (told ≡ told_of number call reply) × (moments ≡ record { tracked = tracked st; memory = memory; call = call } ∷ [])
+
+  -- the lines, one after another, lead from a state and client memory to others, and tell this; these are the moments of their calls; own
+  abbrev pub Lines : List Line → S → List ℕ → S → List ℕ → List Told → List Moment → Type 0
+  Lines [] st memory st2 memory2 told moments = (st2 ≡ st) × (memory2 ≡ memory) × (told ≡ []) × (moments ≡ [])
+  Lines (line ∷ lines) st memory st2 memory2 told moments =
+      (mid : S) × (mid_memory : List ℕ) × (first later : List Told) × (before behind : List Moment)
+      × LineStep line.number line.act st memory mid mid_memory first before × Lines lines mid mid_memory st2 memory2 later behind
+      × (told ≡ first ++ later) × (moments ≡ before ++ behind)
 
 -- each count is low enough for a script's lines; own
 pub record AllLow (counts : Counts) : Type 0 where

@@ -55,8 +55,16 @@ pub record WritesSome (command : Command) (left_before left_after held_before he
   pub put : Adds list_before list_after (images_of (seen_script script))
   pub handed_over : Journals (batches_for command (seen_script script)) journal_before journal_after
 
--- nothing was put or written, or all images were put, and a beginning of the report written; no more was read than may be; own
+-- a beginning of the images was put; own
+pub record StoresSome (command : Command) (left_before left_after : Option (List ℕ)) (list_before list_after : Option (List (List ℕ × List ℕ))) (journal_before journal_after : ℕ → Option (List (List Spelled))) : Type 0 where
+  pub script : Script
+  pub read : ReadsScript left_before left_after script
+  pub put : AddsPart list_before list_after (images_of (seen_script script))
+  pub handed_over : Journals (batches_for command (seen_script script)) journal_before journal_after
+
+-- nothing was put or written; or a beginning of the images was put and nothing written; or all images were put, and a beginning of the report written; no more was read than may be; own
 abbrev pub StopsAnywhere : Command → Option (List ℕ) → Option (List ℕ) → Option (List ℕ) → Option (List ℕ) → Option (List (List ℕ × List ℕ)) → Option (List (List ℕ × List ℕ)) → (ℕ → Option (List (List Spelled))) → (ℕ → Option (List (List Spelled))) → Type 0
 StopsAnywhere command left_before left_after held_before held_after list_before list_after journal_before journal_after =
     (LeavesBoth held_before held_after list_before list_after × TakesAtMost (most_bytes + 1) left_before left_after)
-    ⊎ WritesSome command left_before left_after held_before held_after list_before list_after journal_before journal_after
+    ⊎ (((held_after ≡ held_before) × StoresSome command left_before left_after list_before list_after journal_before journal_after)
+    ⊎ WritesSome command left_before left_after held_before held_after list_before list_after journal_before journal_after)

@@ -1,10 +1,6 @@
 -- A script as data for the direct machine: one context, and its calls, each with the number of its line; own.
-use Rattle.std.specs.Prelude.{◌≡◌, ℕ, ◌≤◌, List, [], ◌∷◌, map}
+use Rattle.std.specs.Prelude.{◌≡◌, ℕ, ◌≤◌, List, [], ◌∷◌}
 use Rattle.gl_state.specs.Private.{AreSides}
-use Rattle.gl_words.specs.declared.call.Call.{Call}
-use Rattle.batch_pack.specs.Cutting.{Issued, issued}
-use Rattle.script_reader.specs.declared.script.Act.{Act}
-use Rattle.script_reader.specs.declared.script.Act.TheVariants.{Gl}
 use Rattle.script_reader.specs.declared.script.ContextSpec.{ContextSpec}
 use Rattle.script_reader.specs.declared.script.Line.{Line}
 use Rattle.script_reader.specs.declared.script.Script.{Script}
@@ -12,14 +8,6 @@ use Rattle.script_reader.specs.declared.script.Script.{Script}
 -- the most lines of a script; own
 abbrev pub most_lines : ℕ
 most_lines = 262144
-
--- the call of what a line does; own
-abbrev pub call_in : Act → Call
-call_in (Gl call) = call
-
--- the call of a line; own
-abbrev pub call_on : Line → Call
-call_on line = call_in line.act
 
 -- a script: the sides of its context in pixels, the size of its client memory in bytes, and its lines in order; own
 pub record Scripted : Type 0 where
@@ -36,10 +24,6 @@ first_context (context ∷ contexts) = context
 -- a script as its first context and its lines; own
 abbrev pub seen_script : Script → Scripted
 seen_script script = record { width = (first_context script.contexts).width; height = (first_context script.contexts).height; memory = (first_context script.contexts).memory; lines = script.lines }
-
--- the calls of lines as they are issued, in order; own
-abbrev pub calls_of : List Line → List Issued
-calls_of lines = map (λ line. issued (call_on line)) lines
 
 -- the contexts are one, with sides of 1 to 256 pixels and at most 1,048,576 bytes of memory; own
 pub record IsOneContext (contexts : List ContextSpec) : Type 0 where

@@ -1,34 +1,50 @@
-//! Putting the image and writing the report.
+//! Putting the images and writing the report.
 
-ghost use Rattle.std.specs.Prelude.{◌≡◌, ℕ, ◌∷◌, []};
+ghost use Rattle.std.specs.Prelude.{◌≡◌, ◌≤◌, ℕ};
 ghost use Rattle.gl_outside.specs.Moved.{Adds, AddsPart};
 ghost use Rattle.gl_outside.specs.Faults.{Rose};
-ghost use Rattle.replay_core.specs.Images.{frame_name};
 ghost use Rattle.replay_core.specs.declared.status.Status.{Status};
-ghost use Rattle.replay_core.specs.Deliver.{Delivers, Writes};
+ghost use Rattle.replay_core.specs.Deliver.{Delivers, Puts, Writes};
 
+use crate::image::ImageFile;
 use crate::status::Status;
 use gl_outside::{OutError, Shelf, Sink, write_all};
 
-/// Puts the image of the frame, and then writes the report.
+/// Puts the images in order, and then writes the report.
 pub fn deliver<K: Sink, G: Shelf>(
     sink: &mut K,
     shelf: &mut G,
-    image: &[u8],
+    images: &[ImageFile],
     report: &[u8],
 ) -> Status
     ensures delivers { Delivers result (K.held sink.old) (K.held sink.new) (G.list shelf.old)
-        (G.list shelf.new) ((frame_name, image.now) ∷ []) report.now }
+        (G.list shelf.new) images.now report.now }
     ensures shelf_fault { (stored : ℕ) → result ≡ Status.ShelfFault stored
         → Rose (G.faults shelf.old) (G.faults shelf.new) × (sink.new ≡ sink.old) }
     ensures write_fault { result ≡ Status.WriteFault
         → Rose (K.faults sink.old) (K.faults sink.new) }
 {
-    match shelf.put("frame-0.ppm", image) {
-        Ok(()) => write_report(sink, report),
-        Err(OutError::Failed) => Status::ShelfFault { stored: 0 },
-        Err(OutError::NoMemory) => Status::NoMemory,
+    match put_images(shelf, images) {
+        Status::Ok => write_report(sink, report),
+        status => status,
     }
+}
+
+/// Puts the images in order, up to the first that isn't put.
+fn put_images<G: Shelf>(shelf: &mut G, images: &[ImageFile]) -> Status
+    ensures puts { Puts result (G.list shelf.old) (G.list shelf.new) images.now }
+    ensures shelf_fault { (stored : ℕ) → result ≡ Status.ShelfFault stored
+        → Rose (G.faults shelf.old) (G.faults shelf.new) }
+{
+    let mut stored = 0;
+    for image in images {
+        match shelf.put(image.name(), image.bytes()) {
+            Ok(()) => stored += 1,
+            Err(OutError::Failed) => return Status::ShelfFault { stored },
+            Err(OutError::NoMemory) => return Status::NoMemory,
+        }
+    }
+    Status::Ok
 }
 
 /// Writes the report.

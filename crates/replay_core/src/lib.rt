@@ -5,6 +5,7 @@ mod deliver;
 mod image;
 mod lines;
 mod plain;
+mod results;
 mod run;
 mod status;
 #[cfg(test)]
@@ -13,9 +14,10 @@ mod text;
 mod top;
 mod words;
 
-pub use image::ppm;
-pub use lines::{Answer, run_lines};
-pub use plain::{DirectRun, direct, plain_report, plain_tally};
+pub use image::{ImageFile, frame_image, picture, pictures, ppm};
+pub use lines::run_lines;
+pub use plain::{DirectRun, direct};
+pub use results::{Done, Results, What};
 pub use status::{Status, exit_code};
 pub use text::{Text, direct_report, report};
 pub use top::replay_alone;

@@ -1,121 +1,172 @@
 //! Running the lines of a script through a front. No driver is named here: there is none but the one behind the rail.
 
-ghost use Rattle.std.specs.Prelude.{◌≡◌, ℕ, ◌+◌, ◌*◌, ◌^◌, ◌<◌, ◌≤◌, length, vec_len, OnOk, OnErr, List, [], ◌∷◌, ◌++◌};
+ghost use Rattle.std.specs.Prelude.{◌≡◌, ℕ, ◌+◌, ◌*◌, ◌^◌, ◌<◌, ◌≤◌, length, OnOk, IfOk, List, [], ◌∷◌, ◌++◌};
+ghost use Rattle.std.specs.List.{All};
 ghost use Rattle.driver_trait.specs.Reply.{replied};
-ghost use Rattle.gl_front.specs.Front.{StandsFor};
-ghost use Rattle.replay_core.specs.Direct.{told_numbers, told_of};
-ghost use Rattle.gl_state.specs.Private.{AreSides};
-ghost use Rattle.replay_core.specs.Script.{IsOneContext, call_on, calls_of, first_context};
-ghost use Rattle.replay_core.specs.Lines.{RunsLines, CountsCalls, TellsCalls, AllLow, AllRiseBy};
+ghost use Rattle.script_reader.specs.Limits.{IsLine, IsAct};
+ghost use Rattle.replay_core.specs.Lines.{AllLow, AllRiseBy, lines_in, taken_bytes};
+ghost use Rattle.replay_core.specs.Running.{RunsOn};
+ghost use Rattle.gl_front.specs.Front.{AllHaveRoom, AllRiseLittle, HasRoom, RisesLittle};
+ghost use Rattle.replay_core.specs.Results.{Told, count_of_bytes, told_of, printed};
 
+use crate::results::{Done, Results, What};
 use batch_rail::Rail;
-use driver_trait::{Driver, Numbers, Reply};
+use driver_trait::{Driver, Numbers, Octets, Reply};
 use gl_front::Front;
-use gl_words::Call;
-use script_reader::{Act, ContextSpec, Line, Script};
-use std::alloc::AllocError as NoMemory;
+use gl_memory::{ClientMemory, Memory};
+use gl_words::{Call, is_answering};
+use script_reader::{Act, Line};
+use std::alloc::{AllocError as NoMemory, Global};
 use std::thread::Threads;
 
-/// What a line's call answered, as the report prints it; own.
-#[derive(Clone, Copy, Debug, PartialEq, Eq)]
-pub struct Answer {
-    /// The number of the script's line, counted from 1.
-    pub line: u32,
-    pub call: Call,
-    pub number: i64,
-}
-
-/// Runs the lines in order, and adds their answers.
+/// Runs the lines of a context in order, and adds what they tell. Lines of other contexts are passed over.
 pub fn run_lines<T: Threads + Sync, D: Driver, R: Rail<D>>(
     rt: &T,
+    alloc: Global,
     front: &mut Front<D, R>,
+    context: u32,
     lines: &[Line],
-    answers: &mut Vec<Answer>,
+    results: &mut Results,
 ) -> Result<(), NoMemory>
+    requires context { context < 4 }
     requires few { length lines.now ≤ 262144 }
+    requires images { All IsLine lines.now }
     requires counts { AllLow front.old.counts }
     requires sent { R.sent front.old.rail < 2 ^ 61 }
     ensures ok { OnOk result
-        (RunsLines (StandsFor R.stands D.steps front.old) D.steps front.old.memory lines.now
-        (StandsFor R.stands D.steps front.new) answers.old.items answers.new.items) }
-    ensures counts { OnOk result
-        (CountsCalls (R.size front.old.rail) front.old.calls front.new.calls
-        (calls_of lines.now) front.old.counts front.new.counts) }
-    ensures journal { OnOk result
-        (TellsCalls (R.size front.old.rail) front.old.calls front.new.calls (calls_of lines.now)
-        (R.journal front.old.rail) (R.journal front.new.rail)) }
-    ensures memory { front.new.memory ≡ front.old.memory }
-    ensures kept { (more : List Answer) × (answers.new.items ≡ answers.old.items ++ more) }
+        (RunsOn D.tracked D.steps R.stands R.journal (R.size front.old.rail)
+        (lines_in context lines.now) front.old front.new results.old results.new) }
+    ensures kept { (more : List Told) × (results.new ≡ results.old ++ more) }
     ensures rises { AllRiseBy front.old.counts front.new.counts (2 * length lines.now) }
     ensures sent { (R.sent front.old.rail ≤ R.sent front.new.rail)
         × (R.sent front.new.rail ≤ R.sent front.old.rail + 2 * length lines.now) }
     ensures size { R.size front.new.rail ≡ R.size front.old.rail }
 {
     for line in lines {
-        let reply = front.issue(rt, call_of_line(line))?;
-        note(answers, line, &reply)?;
+        if line.context == context {
+            run_line(rt, alloc, front, line, results)?;
+        }
     }
     Ok(())
 }
 
-/// Adds what the report tells of a reply.
-pub(crate) fn note(answers: &mut Vec<Answer>, line: &Line, reply: &Reply) -> Result<(), NoMemory>
+/// Runs a line, and adds what it tells.
+fn run_line<T: Threads + Sync, D: Driver, R: Rail<D>>(
+    rt: &T,
+    alloc: Global,
+    front: &mut Front<D, R>,
+    line: &Line,
+    results: &mut Results,
+) -> Result<(), NoMemory>
+    requires image { IsLine line.now }
+    requires counts { AllHaveRoom front.old.counts }
+    requires sent { HasRoom (R.sent front.old.rail) }
     ensures ok { OnOk result
-        (answers.new.items ≡ answers.old.items ++ told_of line.now (replied reply.now)) }
-    ensures kept { (more : List Answer) × (answers.new.items ≡ answers.old.items ++ more) }
-{
-    match reply {
-        Reply::Nothing | Reply::Bytes(_) => Ok(()),
-        Reply::One(number) => note_number(answers, line, *number),
-        Reply::Numbers(numbers) => note_numbers(answers, line, numbers),
-    }
-}
-
-/// Adds a number that a line's call replied.
-#[tactic(auto, unfolding(crate::specs::Direct::told_numbers))]
-fn note_number(answers: &mut Vec<Answer>, line: &Line, number: i64) -> Result<(), NoMemory>
-    ensures ok { OnOk result
-        (answers.new.items ≡ answers.old.items ++ told_numbers line.now (number ∷ [])) }
-    ensures err { OnErr result (answers.new.items ≡ answers.old.items) }
-{
-    answers.push(Answer {
-        line: line.number,
-        call: *call_of_line(line),
-        number,
-    })?;
-    Ok(())
-}
-
-/// Adds the numbers that a line's call replied, in order.
-fn note_numbers(answers: &mut Vec<Answer>, line: &Line, numbers: &Numbers) -> Result<(), NoMemory>
-    ensures ok { OnOk result
-        (answers.new.items ≡ answers.old.items ++ told_numbers line.now numbers.now.items) }
-    ensures kept { (more : List Answer) × (answers.new.items ≡ answers.old.items ++ more) }
-{
-    for at in 0..numbers.len() {
-        note_number(answers, line, numbers.at(at))?;
-    }
-    Ok(())
-}
-
-/// The call of a line.
-pub(crate) fn call_of_line(line: &Line) -> &Call
-    ensures { result.now ≡ call_on line.now }
+        (RunsOn D.tracked D.steps R.stands R.journal (R.size front.old.rail) (line.now ∷ [])
+        front.old front.new results.old results.new) }
+    ensures kept { (more : List Told) × (results.new ≡ results.old ++ more) }
+    ensures rises { AllRiseLittle front.old.counts front.new.counts }
+    ensures sent { RisesLittle (R.sent front.old.rail) (R.sent front.new.rail) }
+    ensures size { R.size front.new.rail ≡ R.size front.old.rail }
 {
     match &line.act {
-        Act::Gl(call) => call,
+        Act::Mem { at, bytes } => {
+            front.write_memory(u64::from(*at), bytes.as_slice());
+            Ok(())
+        }
+        Act::Image {
+            width,
+            height,
+            at,
+            ..
+        } => {
+            let image = take_image(alloc, front.memory(), *width, *height, *at)?;
+            results.push(Done {
+                number: line.number,
+                what: What::Image(image),
+            })
+        }
+        Act::Gl(call) => {
+            front.knows_tracked();
+            let reply = front.issue(rt, call)?;
+            note(alloc, results, line.number, call, reply)
+        }
     }
 }
 
-/// The context of a script with one.
-pub(crate) fn only_context(script: &Script) -> ContextSpec
-    requires { IsOneContext script.now.contexts }
-    ensures context { result ≡ first_context script.now.contexts }
-    ensures sides { AreSides result.width result.height }
-    ensures memory { result.memory ≤ 1048576 }
+/// Takes an image of these sides out of client memory, row by row from the bottom, four bytes a pixel.
+#[tactic(auto, unfolding(gl_memory::specs::Piece::bytes_from))]
+pub(crate) fn take_image(
+    alloc: Global,
+    memory: &ClientMemory,
+    width: u32,
+    height: u32,
+    at: u32,
+) -> Result<Octets, NoMemory>
+    requires width { width ≤ 256 }
+    requires height { height ≤ 256 }
+    ensures { IfOk result (λ image. image.items ≡ taken_bytes memory.now width height at) }
 {
-    match script.contexts.as_slice() {
-        [context, ..] => *context,
-        [] => unreachable!(),
+    let count = u64::from(width * height * 4);
+    let mut image = Octets::new(alloc, count)?;
+    for place in 0..count {
+        image.push(memory.byte(u64::from(at) + place));
+    }
+    Ok(image)
+}
+
+/// Adds what the report tells of a call's reply, where the call is answered.
+pub(crate) fn note(
+    alloc: Global,
+    results: &mut Results,
+    number: u32,
+    call: &Call,
+    reply: Reply,
+) -> Result<(), NoMemory>
+    ensures ok { OnOk result
+        (results.new ≡ results.old ++ told_of number call.now (replied reply)) }
+    ensures kept { (more : List Told) × (results.new ≡ results.old ++ more) }
+{
+    if !is_answering(call) {
+        return Ok(());
+    }
+    let numbers = printed(alloc, call, reply)?;
+    results.push(Done {
+        number,
+        what: What::Answer(numbers),
+    })
+}
+
+/// The numbers that the report prints for a call's reply.
+fn printed(alloc: Global, call: &Call, reply: Reply) -> Result<Numbers, NoMemory>
+    ensures { IfOk result (λ numbers. numbers.items ≡ printed call.now (replied reply)) }
+{
+    if let Call::ReadPixels { .. } = call {
+        return one(alloc, count(&reply));
+    }
+    match reply {
+        Reply::Nothing => Ok(Numbers::none(alloc)),
+        Reply::Bytes(_bytes) => Ok(Numbers::none(alloc)),
+        Reply::One(number) => one(alloc, number),
+        Reply::Numbers(numbers) => Ok(numbers),
+    }
+}
+
+/// A number alone.
+fn one(alloc: Global, number: i64) -> Result<Numbers, NoMemory>
+    ensures { IfOk result (λ numbers. numbers.items ≡ number ∷ []) }
+{
+    let mut numbers = Numbers::new(alloc, 1)?;
+    numbers.push(number);
+    Ok(numbers)
+}
+
+/// How many bytes a reply has.
+fn count(reply: &Reply) -> i64
+    ensures { result ≡ count_of_bytes (replied reply.now) }
+{
+    match reply {
+        Reply::Bytes(bytes) => bytes.len() as i64,
+        Reply::Nothing | Reply::One(_) | Reply::Numbers(_) => 0,
     }
 }

@@ -2,4 +2,5 @@
 
 mod parts;
 mod runs;
+mod shown;
 mod words;

@@ -102,7 +102,7 @@ pub fn replay_alone<T: Threads + Sync, S: Source, K: Sink, G: Shelf, R: RailMake
         Err(ReadRefusal::NoMemory) => return Status::NoMemory,
     };
     match run_command(rt, alloc, rails, asked, &script) {
-        Ok(output) => deliver(sink, shelf, &output.image, output.report.bytes()),
+        Ok(output) => deliver(sink, shelf, output.images.as_slice(), output.report.bytes()),
         Err(_) => Status::NoMemory,
     }
 }

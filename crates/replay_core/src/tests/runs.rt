@@ -125,6 +125,21 @@ fn runs_report_answers_and_counts(rt: HostRuntime) -> Result<(), Fail> {
             "glscript 1\ncontext 0 1 1 0\n0 PopMatrix\n0 MatrixMode PROJECTION\n0 PushMatrix\n0 PushMatrix\n0 GetError\n0 GetError\nend\n",
             "glreport 1\n7 0 GetError 1284\n8 0 GetError 0\ncounts 0 4 2 0 1\nimages 1\nend\n",
         ),
+        // An answer beside a pending error.
+        (
+            "glscript 1\ncontext 0 1 1 16\n0 MatrixMode 0x9999\n0 GetIntegerv MATRIX_MODE 0\n0 GetError\n0 GetError\nend\n",
+            "glreport 1\n4 0 GetIntegerv 5888\n5 0 GetError 1280\n6 0 GetError 0\ncounts 0 1 2 1 1\nimages 1\nend\n",
+        ),
+        // The first error stays.
+        (
+            "glscript 1\ncontext 0 1 1 16\n0 MatrixMode 0x9999\n0 PopMatrix\n0 GetError\n0 GetError\nend\n",
+            "glreport 1\n5 0 GetError 1280\n6 0 GetError 0\ncounts 0 2 2 0 1\nimages 1\nend\n",
+        ),
+        // Stacks.
+        (
+            "glscript 1\ncontext 0 1 1 8\n0 MatrixMode PROJECTION\n0 PushMatrix\n0 PushMatrix\n0 GetError\n0 GetIntegerv PROJECTION_STACK_DEPTH 0\n0 PopMatrix\n0 PopMatrix\n0 GetError\n0 GetIntegerv PROJECTION_STACK_DEPTH 0\nend\n",
+            "glreport 1\n6 0 GetError 1283\n7 0 GetIntegerv 2\n10 0 GetError 1284\n11 0 GetIntegerv 1\ncounts 0 5 2 2 2\nimages 1\nend\n",
+        ),
     ];
     for (text, report) in &rows {
         let left = replay(
@@ -139,6 +154,155 @@ fn runs_report_answers_and_counts(rt: HostRuntime) -> Result<(), Fail> {
         assert_eq!(rt; left.shelf.len(), 1);
         assert_eq!(rt; left.shelf.bytes_at(0), b"P6\n1 1\n255\n\0\0\0".as_slice());
     }
+    Ok(())
+}
+
+const READ_BACK: &str =
+    "glscript 1\ncontext 0 2 1 128\n0 ClearColorx 0 65536 0 65536\n0 Clear 0x4000\n0 ReadPixels 0 0 2 1 RGBA UNSIGNED_BYTE 0\n0 image shot 2 1 0\nend\n";
+
+const GREEN: &[u8] = b"P6\n2 1\n255\n\0\xff\0\0\xff\0";
+
+/// Whether these words lead to this report, with one image of a line before that of the frame.
+fn reads_back<T: Threads + Sync>(
+    rt: &T,
+    alloc: Global,
+    words: &[&str],
+    report: &str,
+) -> Result<bool, AllocError> {
+    let sure = Outside::sure(alloc, 4096);
+    let left = replay(rt, alloc, words, READ_BACK.as_bytes(), sure)?;
+    if left.shelf.len() != 2 {
+        return Ok(false);
+    }
+    let is_told = left.status == Status::Ok && left.sink.bytes() == report.as_bytes();
+    let is_taken = left.shelf.name_at(0) == "image-shot.ppm" && left.shelf.bytes_at(0) == GREEN;
+    let is_framed = left.shelf.name_at(1) == "frame-0.ppm" && left.shelf.bytes_at(1) == GREEN;
+    Ok(is_told && is_taken && is_framed)
+}
+
+// The numbers and images were worked by hand, and a plain program by other hands gives the same.
+#[test]
+fn pixels_that_were_read_are_an_image(rt: HostRuntime) -> Result<(), Fail> {
+    let counted = "glreport 1\n5 0 ReadPixels 8\ncounts 0 2 1 0 1\nimages 2\nend\n";
+    let direct = "glreport 1\n5 0 ReadPixels 8\nimages 2\nend\n";
+    assert!(rt; reads_back(&rt, rt.alloc(), &WORDS, counted)?);
+    assert!(rt; reads_back(&rt, rt.alloc(), &["direct"], direct)?);
+    Ok(())
+}
+
+const EACH_CALL: &str =
+    "glscript 1\ncontext 0 2 2 64\n0 ActiveTexture TEXTURE1\n0 ClientActiveTexture TEXTURE1\n0 TexCoordPointer 2 SHORT 4 8\n0 EnableClientState TEXTURE_COORD_ARRAY\n0 VertexPointer 3 FIXED 12 16\n0 NormalPointer BYTE 3 24\n0 ColorPointer 4 UNSIGNED_BYTE 4 32\n0 EnableClientState VERTEX_ARRAY\n0 DisableClientState VERTEX_ARRAY\n0 PixelStorei PACK_ALIGNMENT 1\n0 Viewport 1 0 1 2\n0 MatrixMode PROJECTION\n0 LoadIdentity\n0 PushMatrix\n0 Frustumx -65536 65536 -65536 65536 65536 131072\n0 PopMatrix\n0 Orthox 0 131072 0 131072 -65536 65536\n0 Translatex 65536 0 0\n0 Scalex 131072 65536 65536\n0 Rotatex 5898240 0 0 65536\n0 ClearColorx 65536 32768 0 65536\n0 Clear COLOR_BUFFER_BIT\n0 GetFixedv PROJECTION_MATRIX 0\n0 GetFixedv DEPTH_CLEAR_VALUE 0\n0 GetIntegerv VIEWPORT 0\n0 GetIntegerv TEXTURE_STACK_DEPTH 0\n0 GetIntegerv TEXTURE_COORD_ARRAY_TYPE 0\n0 GetPointerv TEXTURE_COORD_ARRAY_POINTER 0\n0 IsEnabled DITHER\n0 IsEnabled VERTEX_ARRAY\n0 ReadPixels 1 1 2 1 RGBA UNSIGNED_BYTE 8\n0 Flush\n0 Finish\n0 GetError\n0 image seen 4 1 0\nend\n";
+
+const EACH_ANSWER: &str =
+    "25 0 GetFixedv 0 65536 0 0 -131072 0 0 0 0 0 -65536 0 0 -65536 0 65536\n26 0 GetFixedv 65536\n27 0 GetIntegerv 1 0 1 2\n28 0 GetIntegerv 1\n29 0 GetIntegerv 5122\n30 0 GetPointerv 8\n31 0 IsEnabled 1\n32 0 IsEnabled 0\n33 0 ReadPixels 8\n36 0 GetError 0\n";
+
+// Each call once at least, without an error. The report is that of a plain program by other hands.
+#[test]
+fn each_call_is_carried_out(rt: HostRuntime) -> Result<(), Fail> {
+    let rows = [
+        ("16", "counts 0 23 7 4 6\n"),
+        ("1024", "counts 0 23 7 4 2\n"),
+    ];
+    for (batch, counts) in &rows {
+        let words = ["run", "--rail", "inline", "--batch", *batch];
+        let sure = Outside::sure(rt.alloc(), 4096);
+        let left = replay(&rt, rt.alloc(), &words, EACH_CALL.as_bytes(), sure)?;
+        let report = format!(in rt.alloc(); "glreport 1\n{EACH_ANSWER}{counts}images 2\nend\n")?;
+        assert_eq!(rt; left.status, Status::Ok);
+        assert_eq!(rt; left.sink.bytes(), report.as_bytes());
+        assert_eq!(rt; left.shelf.len(), 2);
+        assert_eq!(rt;
+            left.shelf.bytes_at(0),
+            b"P6\n4 1\n255\n\x08\0\0\0\0\0\xff\x80\0\0\0\0".as_slice()
+        );
+        assert_eq!(rt;
+            left.shelf.bytes_at(1),
+            b"P6\n2 2\n255\n\xff\x80\0\xff\x80\0\xff\x80\0\xff\x80\0".as_slice()
+        );
+    }
+    Ok(())
+}
+
+// The largest frame, client memory, image and read, a long line and full batches: with memory to spare all is done.
+// The report is that of a plain program by other hands.
+#[test]
+fn large_things_succeed(rt: HostRuntime) -> Result<(), Fail> {
+    let alloc = rt.alloc();
+    let mut text = Vec::new(alloc);
+    text.extend_from_slice(b"glscript 1\ncontext 0 256 256 1048576\n0 mem 1 ".as_slice())?;
+    for _ in 0..4096 {
+        text.extend_from_slice(b"5A".as_slice())?;
+    }
+    text.extend_from_slice(b"\n0 image large 256 256 0\n".as_slice())?;
+    for _ in 0..1000 {
+        text.extend_from_slice(b"0 ClearColorx 65536 0 0 65536\n".as_slice())?;
+    }
+    text.extend_from_slice(b"0 Clear COLOR_BUFFER_BIT\n".as_slice())?;
+    text.extend_from_slice(b"0 ReadPixels 0 0 512 512 RGBA UNSIGNED_BYTE 0\nend\n".as_slice())?;
+    let left = replay(
+        &rt,
+        alloc,
+        &WORDS,
+        text.as_slice(),
+        Outside::sure(alloc, 65536),
+    )?;
+    assert_eq!(rt; left.status, Status::Ok);
+    assert_eq!(rt;
+        left.sink.bytes(),
+        b"glreport 1\n1006 0 ReadPixels 1048576\ncounts 0 1001 1 0 5\nimages 2\nend\n".as_slice()
+    );
+    assert_eq!(rt; left.shelf.len(), 2);
+    assert_eq!(rt; left.shelf.bytes_at(0).len(), 196_623);
+    assert_eq!(rt; left.shelf.bytes_at(1).len(), 196_623);
+    Ok(())
+}
+
+const PADDED: &str =
+    "glscript 1\ncontext 0 1 2 20\n0 mem 0 EEEEEEEEEEEEEEEEEEEEEEEEEEEEEEEEEEEEEEEE\n0 PixelStorei PACK_ALIGNMENT 8\n0 ClearColorx 65536 0 0 65536\n0 Clear 0x4000\n0 ReadPixels 0 1 1 2 RGBA UNSIGNED_BYTE 4\n0 image all 5 1 0\nend\n";
+
+// The lower row lies in the frame and the upper one above it. Four bytes between the rows and those at both ends
+// are as they were. The bytes were worked by hand, and a plain program by other hands gives the same.
+#[test]
+fn bytes_between_the_rows_of_a_read_stay(rt: HostRuntime) -> Result<(), Fail> {
+    let sure = Outside::sure(rt.alloc(), 4096);
+    let left = replay(&rt, rt.alloc(), &WORDS, PADDED.as_bytes(), sure)?;
+    assert_eq!(rt; left.status, Status::Ok);
+    assert_eq!(rt;
+        left.sink.bytes(),
+        b"glreport 1\n7 0 ReadPixels 8\ncounts 0 3 1 0 1\nimages 2\nend\n".as_slice()
+    );
+    assert_eq!(rt; left.shelf.len(), 2);
+    assert_eq!(rt; left.shelf.name_at(0), "image-all.ppm");
+    assert_eq!(rt;
+        left.shelf.bytes_at(0),
+        b"P6\n5 1\n255\n\xee\xee\xee\xff\0\0\xee\xee\xee\0\0\0\xee\xee\xee".as_slice()
+    );
+    assert_eq!(rt;
+        left.shelf.bytes_at(1),
+        b"P6\n1 2\n255\n\xff\0\0\xff\0\0".as_slice()
+    );
+    Ok(())
+}
+
+const PAST_THE_END: &str =
+    "glscript 1\ncontext 0 1 1 8\n0 mem 0 1122334455667788\n0 GetIntegerv MATRIX_MODE 5\n0 GetIntegerv MATRIX_MODE 100\n0 image all 1 2 0\nend\n";
+
+// Of the four bytes of a number those in memory are written, and the report tells it all the same. An image has its
+// lowest row first in memory. The bytes were worked by hand, and a plain program by other hands gives the same.
+#[test]
+fn bytes_past_the_end_of_memory_are_dropped(rt: HostRuntime) -> Result<(), Fail> {
+    let sure = Outside::sure(rt.alloc(), 4096);
+    let left = replay(&rt, rt.alloc(), &WORDS, PAST_THE_END.as_bytes(), sure)?;
+    assert_eq!(rt; left.status, Status::Ok);
+    assert_eq!(rt;
+        left.sink.bytes(),
+        b"glreport 1\n4 0 GetIntegerv 5888\n5 0 GetIntegerv 5888\ncounts 0 0 0 2 0\nimages 2\nend\n".as_slice()
+    );
+    assert_eq!(rt; left.shelf.len(), 2);
+    assert_eq!(rt;
+        left.shelf.bytes_at(0),
+        b"P6\n1 2\n255\n\x55\0\x17\x11\x22\x33".as_slice()
+    );
     Ok(())
 }
 

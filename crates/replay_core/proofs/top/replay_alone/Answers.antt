@@ -32,7 +32,7 @@ returns-in-Ok-run_command-clause-ok g c = λ asked words e.
     let read = reads_script _ _ c.in-Ok.bytes.items c.in-Ok-read.script c.in-Ok.ensures.ok c.in-Ok.ensures.end is_script in
     let same : c.in-Some.asked ≡ asked = cc in
     let handed_over = journals_for c.in-Some.asked asked _ _ _ same c.in-Ok-run_command.ensures.journal in
-    replays asked c.deliver.result _ _ _ _ _ _ _ _ c.in-Ok-read.script c.deref-in-Ok-run_command.result.now c.bytes.result.now e read handed_over (c.deref-in-Ok-run_command.ensures.value ∙ c.in-Ok-run_command.ensures.image) (c.bytes.ensures ∙ (c.in-Ok-run_command.ensures.report ∙ ap (λ k. report_for k (seen_script c.in-Ok-read.script)) same)) c.deliver.ensures.delivers
+    replays asked c.deliver.result _ _ _ _ _ _ _ _ c.in-Ok-read.script c.as_slice.result.now c.bytes.result.now e read handed_over (c.as_slice.ensures.value ∙ c.in-Ok-run_command.ensures.images) (c.bytes.ensures ∙ (c.in-Ok-run_command.ensures.report ∙ ap (λ k. report_for k (seen_script c.in-Ok-read.script)) same)) c.deliver.ensures.delivers
 
 pub returns-in-Ok-run_command-clause-shelf_fault : goal.returns-in-Ok-run_command-clause-shelf_fault
 returns-in-Ok-run_command-clause-shelf_fault g c = λ asked words stored e.
@@ -41,7 +41,7 @@ returns-in-Ok-run_command-clause-shelf_fault g c = λ asked words stored e.
     let same : c.in-Some.asked ≡ asked = cc in
     let handed_over = journals_for c.in-Some.asked asked _ _ _ same c.in-Ok-run_command.ensures.journal in
     let fault = c.deliver.ensures.shelf_fault stored e in
-    (fault.0, puts_some asked c.deliver.result _ _ _ _ _ _ _ _ c.in-Ok-read.script c.deref-in-Ok-run_command.result.now c.bytes.result.now stored e read handed_over c.deliver.ensures.delivers, fault.1)
+    (fault.0, puts_some asked c.deliver.result _ _ _ _ _ _ _ _ c.in-Ok-read.script c.as_slice.result.now c.bytes.result.now stored e read handed_over (c.as_slice.ensures.value ∙ c.in-Ok-run_command.ensures.images) (c.bytes.ensures ∙ (c.in-Ok-run_command.ensures.report ∙ ap (λ k. report_for k (seen_script c.in-Ok-read.script)) same)) c.deliver.ensures.delivers, fault.1)
 
 pub returns-in-Ok-run_command-clause-write_fault : goal.returns-in-Ok-run_command-clause-write_fault
 returns-in-Ok-run_command-clause-write_fault g c = λ asked words e.
@@ -49,7 +49,7 @@ returns-in-Ok-run_command-clause-write_fault g c = λ asked words e.
     let read = reads_script _ _ c.in-Ok.bytes.items c.in-Ok-read.script c.in-Ok.ensures.ok c.in-Ok.ensures.end is_script in
     let same : c.in-Some.asked ≡ asked = cc in
     let handed_over = journals_for c.in-Some.asked asked _ _ _ same c.in-Ok-run_command.ensures.journal in
-    (c.deliver.ensures.write_fault e, writes_some asked c.deliver.result _ _ _ _ _ _ _ _ c.in-Ok-read.script c.deref-in-Ok-run_command.result.now c.bytes.result.now e read handed_over (c.deref-in-Ok-run_command.ensures.value ∙ c.in-Ok-run_command.ensures.image) (c.bytes.ensures ∙ (c.in-Ok-run_command.ensures.report ∙ ap (λ k. report_for k (seen_script c.in-Ok-read.script)) same)) c.deliver.ensures.delivers)
+    (c.deliver.ensures.write_fault e, writes_some asked c.deliver.result _ _ _ _ _ _ _ _ c.in-Ok-read.script c.as_slice.result.now c.bytes.result.now e read handed_over (c.as_slice.ensures.value ∙ c.in-Ok-run_command.ensures.images) (c.bytes.ensures ∙ (c.in-Ok-run_command.ensures.report ∙ ap (λ k. report_for k (seen_script c.in-Ok-read.script)) same)) c.deliver.ensures.delivers)
 
 pub returns-in-Ok-run_command-clause-no_memory : goal.returns-in-Ok-run_command-clause-no_memory
 returns-in-Ok-run_command-clause-no_memory g c = λ asked words e.
@@ -57,7 +57,7 @@ returns-in-Ok-run_command-clause-no_memory g c = λ asked words e.
     let read = reads_script _ _ c.in-Ok.bytes.items c.in-Ok-read.script c.in-Ok.ensures.ok c.in-Ok.ensures.end is_script in
     let same : c.in-Some.asked ≡ asked = cc in
     let handed_over = journals_for c.in-Some.asked asked _ _ _ same c.in-Ok-run_command.ensures.journal in
-    stops_anywhere asked c.deliver.result _ _ _ _ _ _ _ _ c.in-Ok-read.script c.deref-in-Ok-run_command.result.now c.bytes.result.now e read handed_over (c.deref-in-Ok-run_command.ensures.value ∙ c.in-Ok-run_command.ensures.image) (c.bytes.ensures ∙ (c.in-Ok-run_command.ensures.report ∙ ap (λ k. report_for k (seen_script c.in-Ok-read.script)) same)) c.deliver.ensures.delivers
+    stops_anywhere asked c.deliver.result _ _ _ _ _ _ _ _ c.in-Ok-read.script c.as_slice.result.now c.bytes.result.now e read handed_over (c.as_slice.ensures.value ∙ c.in-Ok-run_command.ensures.images) (c.bytes.ensures ∙ (c.in-Ok-run_command.ensures.report ∙ ap (λ k. report_for k (seen_script c.in-Ok-read.script)) same)) c.deliver.ensures.delivers
 
 pub returns-in-Ok-run_command-clause-refused : goal.returns-in-Ok-run_command-clause-refused
 returns-in-Ok-run_command-clause-refused g c = λ left asked error e words refused sound.

@@ -1,7 +1,6 @@
-use Rattle.std.proofs.Common.{◌≡◌, ◌++◌, take}
-use Rattle.std.specs.List.{flat_map}
-use Rattle.replay_core.specs.Report.{answer_text}
+use Rattle.std.proofs.Common.{◌≡◌, ◌++◌, drop}
+use Rattle.replay_core.specs.Report.{answers_from}
 use Rattle.replay_core.proofs.text.Text.answers.Given as goal
 
-abbrev pub invariant-loop-answer : goal.invariant-loop-answer
-invariant-loop-answer l = l.self ≡ l.initial.self ++ flat_map answer_text (take l.answer-index l.answers)
+abbrev pub invariant-loop-line : goal.invariant-loop-line
+invariant-loop-line l = l.self ++ answers_from (drop l.line-index l.lines) (drop l.at l.results) ≡ l.initial.self ++ answers_from l.lines l.results
