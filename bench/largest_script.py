@@ -3,24 +3,14 @@
 
     PEER='path/of/program words' bench/largest_script.py
 
-PEER reads a script on standard input, too. Prints seconds of each, a bound on its peak memory (in which this script's
-own may count), and the ratio of the seconds. The least of five runs counts, which are taken in turns. Nothing here is
-claimed by a theorem.
+PEER reads a script on standard input, too. Prints seconds of each, a bound on its peak memory, and the ratio of the
+seconds. The least of five runs counts, which are taken in turns. Nothing here is claimed by a theorem.
 """
 
-import os
-import shlex
-import subprocess
-import sys
-import tempfile
-import time
-from pathlib import Path
+import timing
 
-TOP = Path(__file__).resolve().parent.parent
-PROGRAM = TOP / "crates/glreplay/out/glreplay"
 LINES = 262144  # the most that a script may have, and the most bytes
 BYTES = 8388608
-RUNS = 5
 
 
 def largest_script():
@@ -45,40 +35,15 @@ def largest_script():
     return text.encode()
 
 
-def run(words, script, folder):
-    """Seconds and peak kilobytes of one run."""
-    with open(script, "rb") as given, open(folder / "report", "wb") as report:
-        began = time.perf_counter()
-        child = subprocess.Popen(words, stdin=given, stdout=report, cwd=folder)
-        _, status, used = os.wait4(child.pid, 0)
-        seconds = time.perf_counter() - began
-    if status:
-        sys.exit(f"{words[0]} ended with status {os.waitstatus_to_exitcode(status)}")
-    return seconds, used.ru_maxrss
-
-
 def main():
-    if not PROGRAM.exists():
-        sys.exit("first build the program: ./run")
-    peers = {"glreplay": [str(PROGRAM), "run", "--rail", "inline"]}
-    if os.environ.get("PEER"):
-        words = shlex.split(os.environ["PEER"])
-        peers["peer"] = [str(Path(words[0]).resolve()) if "/" in words[0] else words[0], *words[1:]]
-    with tempfile.TemporaryDirectory() as room:
-        folder = Path(room)
-        script = folder / "largest.gls"
-        script.write_bytes(largest_script())
-        print(f"script: {LINES} lines, {script.stat().st_size} bytes")
-        least, peak = {}, {}
-        for _ in range(RUNS):
-            for name, words in peers.items():
-                seconds, memory = run(words, script, folder)
-                least[name] = min(seconds, least.get(name, seconds))
-                peak[name] = max(memory, peak.get(name, 0))
-    for name in peers:
-        print(f"{name}: {least[name]:.3f} s, peak at most {peak[name] / 1024:.1f} MB")
-    if "peer" in least:
-        print(f"ratio: {least['glreplay'] / least['peer']:.2f} of the peer's time")
+    script = largest_script()
+    programs = {"glreplay": ([str(timing.PROGRAM), "run", "--rail", "inline"], script, 0)}
+    if timing.peer():
+        programs["peer"] = (timing.peer(), script, 0)
+    print(f"script: {LINES} lines, {len(script)} bytes")
+    seconds = timing.least(programs)
+    if "peer" in seconds:
+        print(f"ratio: {seconds['glreplay'] / seconds['peer']:.2f} of the peer's time")
 
 
 if __name__ == "__main__":
