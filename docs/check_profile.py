@@ -7,7 +7,8 @@ from pathlib import Path
 
 TOP = Path(__file__).resolve().parent.parent
 WORDS = TOP / "crates/gl_words"
-PACK = TOP / "crates/batch_pack"
+DRIVER = TOP / "crates/driver_trait"
+SHADOW = TOP / "crates/client_shadow"
 KINDS = {"Enum": "enumerant", "Unsigned": "unsigned", "Int": "integer", "Fixed": "fixed", "Bool": "boolean", "Pointer": "address"}
 
 
@@ -28,10 +29,36 @@ def table(title):
     return rows[2:]
 
 
+def numbers(path, *names):
+    """The numbers, in hexadecimal, of the bodies of these definitions."""
+    bodies = [re.search(rf"^{name}\b[^:=\n]*=(.*?)(?:\n\n|\Z)", path.read_text(), re.S | re.M).group(1) for name in names]
+    return sorted(re.findall(r"0x[0-9A-F]{4}", "".join(bodies)))
+
+
+def gets():
+    """The numbers of the names that each get takes, by whether they are of tracked state, as the code has them."""
+    path, tracked = DRIVER / "specs/Gets.antt", DRIVER / "specs/Tracked.antt"
+    return {
+        ("GetIntegerv", True): numbers(path, "mode_rows", "array_rows", "buffer_rows"),
+        ("GetPointerv", True): numbers(path, "pointer_rows"),
+        ("IsEnabled", True): numbers(path, "enabled_rows"),
+        ("GetIntegerv", False): numbers(path, "other_integers"),
+        ("GetFixedv", False): numbers(path, "fixed_names"),
+        ("IsEnabled", False): numbers(tracked, "capabilities"),
+    }
+
+
+def classes(answering):
+    """The calls of each class, as the code has them."""
+    asked = re.findall(r"^number_asked tracked \((\w+)", (DRIVER / "specs/Step.antt").read_text(), re.M)
+    finish = definition(SHADOW / "specs/Class.antt", "is_finish")
+    waits = [name for name in answering if "true" in (answering[name], finish.get(name))]
+    return {"Answer": sorted(asked), "Sync": sorted(waits), "Defer": sorted(set(answering) - set(waits))}
+
+
 def main():
     call = WORDS / "specs/Call.antt"
     ids, kinds, answering = definition(call, "id_of"), definition(call, "kinds_of"), definition(call, "is_answering")
-    classes = definition(PACK / "specs/Class.antt", "class_of")
     wrong = []
     rows = table("Calls")
     for number, name, arguments, _, answered in rows:
@@ -41,9 +68,18 @@ def main():
             wrong.append(f"PROFILE.md, Calls: {name} differs from crates/gl_words/specs/Call.antt")
     if sorted(ids) != sorted(row[1] for row in rows):
         wrong.append("PROFILE.md, Calls: not the calls of crates/gl_words/specs/Call.antt")
-    said = {name: row[0] for row in table("Which calls wait") for name in row[1].split(", ")}
-    if said != classes:
-        wrong.append("PROFILE.md, Which calls wait: differs from crates/batch_pack/specs/Class.antt")
+    said = {row[0]: sorted(row[1].split(", ")) for row in table("Which calls wait")}
+    if said != classes(answering):
+        wrong.append("PROFILE.md, Which calls wait: differs from crates/client_shadow/specs/Class.antt")
+    named = dict(re.findall(r'codes "(\w+)", (0x\w+)', (WORDS / "specs/Names.antt").read_text()))
+    said = {}
+    for row in table("Names of the gets"):
+        if row[2:] and row[2].startswith("0x"):
+            said.setdefault((row[0], len(row) == 4), []).extend(row[2].split(", "))
+            if [named.get(name) for name in row[1].split(", ")] != row[2].split(", "):
+                wrong.append(f"PROFILE.md, Names of the gets: {row[1]} differs from crates/gl_words/specs/Names.antt")
+    if {key: sorted(found) for key, found in said.items()} != gets():
+        wrong.append("PROFILE.md, Names of the gets: differs from crates/driver_trait/specs/Gets.antt")
     for line in wrong:
         print(line)
     print(f"docs/check_profile.py: {'FAILED' if wrong else 'the tables agree'}")

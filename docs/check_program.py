@@ -13,6 +13,11 @@ RED = (TOP / "examples/red.gls").read_bytes()
 REPORT = b"glreport 1\ncounts 0 2 0 0 1\nimages 1\nend\n"
 IMAGE = b"P6\n4 4\n255\n" + b"\xff\0\0" * 16
 BAD_WORDS = b"glreplay: bad words\n"
+# Takes two images of client memory, the second by the name of the first and once the frame was read into it.
+SHOTS = b"glscript 1\ncontext 0 1 1 4\n0 image a 1 1 0\n0 ReadPixels 0 0 1 1 RGBA UNSIGNED_BYTE 1\n0 mem 0 0102\n0 image a 1 1 0\nend\n"
+SHOTS_REPORT = b"glreport 1\n4 0 ReadPixels 4\nimages 3\nend\n"
+READ_BACK = (TOP / "examples/read_back.gls").read_bytes()
+READ_BACK_REPORT = b"glreport 1\n6 0 ReadPixels 32\n10 0 GetIntegerv 5889\n12 0 GetError 0\ncounts 0 3 2 1 2\nimages 2\nend\n"
 
 
 def run(words, script, folder, **streams):
@@ -57,6 +62,13 @@ def main():
         (folder / "frame-0.ppm").unlink()
         (folder / "frame-0.ppm").mkdir()
         wants("a folder in the image's place", run(["run"], RED, folder), (5, b"", b"glreplay: shelf fault after 0 images\n"))
+        wants("the third put of three failing", run(["run"], SHOTS, folder), (5, b"", b"glreplay: shelf fault after 2 images\n"))
+        (folder / "frame-0.ppm").rmdir()
+        wants("images of lines", run(["direct"], SHOTS, folder), (0, SHOTS_REPORT, b""))
+        wants("a name that comes again", (folder / "image-a.ppm").read_bytes(), b"P6\n1 1\n255\n\1\2\0")
+        wants("the files", sorted(image.name for image in folder.iterdir()), ["frame-0.ppm", "image-a.ppm"])
+        wants("pixels read back", run(["run"], READ_BACK, folder), (0, READ_BACK_REPORT, b""))
+        wants("the image of them", (folder / "image-read.ppm").read_bytes(), (folder / "frame-0.ppm").read_bytes())
         directory = os.open(folder, 0)
         wants("a folder as standard input", run(["run"], None, folder, stdin=directory), (3, b"", b"glreplay: read fault\n"))
     for line in wrong:

@@ -1,5 +1,5 @@
 #!/usr/bin/env python3
-"""Replays cuts and changes of four scripts, and compares what glreplay says of each with the table in refusals.txt.
+"""Replays cuts and changes of five scripts, and compares what glreplay says of each with the table in refusals.txt.
 
     docs/check_refusals.py                  compares the built program with the table
     docs/check_refusals.py --write PROGRAM  writes the table anew, with the answers of another program
@@ -23,6 +23,7 @@ SCRIPTS = {
     "red": b"glscript 1\ncontext 0 4 4 0\n0 ClearColorx 65536 0 0 65536\n0 Clear COLOR_BUFFER_BIT\nend\n",
     "errors": b"glscript 1\ncontext 0 1 1 0\n0 Clear 1\n0 GetError\n0 Flush\n0 Finish\n0 GetError\nend\n",
     "matrices": b"glscript 1\ncontext 0 1 1 0\n0 PopMatrix\n0 MatrixMode PROJECTION\n0 Frustumx -1 1 -1 1 1 2\n0 GetError\nend\n",
+    "pixels": b"glscript 1\ncontext 0 2 1 64\n0 mem 4 0aFF10\n0 ReadPixels 0 0 1 1 RGBA UNSIGNED_BYTE 8\n0 GetIntegerv MATRIX_MODE 0\n0 image shot-1 2 1 3\nend\n",
     "spelled otherwise": b"\n# red\r\nglscript 1\r\n context\t0 0x2 03 -0\n00 ClearColorx 0xFfff -1 ONE 9\n0 Clear 0x4000\nend\r\n#",
 }
 # What a byte is replaced by.
