@@ -4,7 +4,7 @@
     PEER='path/of/program words' bench/largest_script.py
 
 PEER reads a script on standard input, too. Prints seconds of each, a bound on its peak memory, and the ratio of the
-seconds. The least of five runs counts, which are taken in turns. Nothing here is claimed by a theorem.
+seconds. The least of fifteen runs counts, which are taken in turns. Nothing here is claimed by a theorem.
 """
 
 import timing
@@ -36,11 +36,9 @@ def largest_script():
 
 
 def main():
-    script = largest_script()
-    programs = {"glreplay": ([str(timing.PROGRAM), "run", "--rail", "inline"], script, 0)}
+    programs = {"glreplay": ([str(timing.PROGRAM), "run", "--rail", "inline"], largest_script, 0)}
     if timing.peer():
-        programs["peer"] = (timing.peer(), script, 0)
-    print(f"script: {LINES} lines, {len(script)} bytes")
+        programs["peer"] = (timing.peer(), largest_script, 0)
     seconds = timing.least(programs)
     if "peer" in seconds:
         print(f"ratio: {seconds['glreplay'] / seconds['peer']:.2f} of the peer's time")

@@ -5,14 +5,16 @@ program where the variable PEER names one.
     PEER='path/of/program words' bench/state_calls.py
 
 PEER reads a script on standard input, too. Prints seconds of each, a bound on its peak memory, and ratios. Reading alone
-is timed with the last line left out, so that the script is refused once it is read. What the layer adds to a call is the
-time by it less that of the direct machine. The least of five runs counts, which are taken in turns. Nothing here is
-claimed by a theorem.
+is timed with the last line left out, so that the script is refused once it is read. What the layer adds to a call, the
+front and the rail together, is the time by it less that of the direct machine. Where valgrind is there, the front's own
+instructions are told beside those of reading. The least of fifteen runs counts, which are taken in turns. Nothing here
+is claimed by a theorem.
 """
 
 import timing
 
 CALLS = 250000
+FEW = 25000  # for counting instructions
 SETTERS = [
     "MatrixMode PROJECTION", "LoadIdentity", "Translatex 65536 0 -65536", "ClearColorx 0 65536 0 65536",
     "EnableClientState VERTEX_ARRAY", "VertexPointer 3 FIXED 12 64", "PixelStorei PACK_ALIGNMENT 4",
@@ -25,27 +27,42 @@ GETS = [
 ]
 
 
-def state_calls():
-    """Lines of calls, without the last line."""
+def unended(count=CALLS):
+    """Lines of so many calls, without the last line."""
     lines = ["glscript 1", "context 0 1 1 128"]
-    for number in range(CALLS):
+    for number in range(count):
         calls = GETS if number % 8 == 7 else SETTERS
         lines.append(f"0 {calls[(number // 8 if calls is GETS else number - number // 8) % len(calls)]}")
     return "".join(line + "\n" for line in lines).encode()
 
 
+def state_calls():
+    """The whole script."""
+    return unended() + b"end\n"
+
+
+def front_share(run, direct, reading):
+    """The front's instructions by those of reading: packing, and what run does more than direct in the functions that hold
+    the front and the shadow. What takes batches to the driver, and the driver, stand in others."""
+
+    def more(name):
+        return sum(count for function, count in run.items() if name in function) - sum(
+            count for function, count in direct.items() if name in function
+        )
+
+    front = more("try_pack") + more("replay_alone") + max(0, more("driver_trait::tracked"))
+    return front / sum(reading.values())
+
+
 def main():
-    unended = state_calls()
-    script = unended + b"end\n"
     glreplay = str(timing.PROGRAM)
     programs = {
-        "run": ([glreplay, "run", "--rail", "inline"], script, 0),
-        "direct": ([glreplay, "direct"], script, 0),
+        "run": ([glreplay, "run", "--rail", "inline"], state_calls, 0),
+        "direct": ([glreplay, "direct"], state_calls, 0),
         "reading": ([glreplay, "run", "--rail", "inline"], unended, 4),
     }
     if timing.peer():
-        programs["peer"] = (timing.peer(), script, 0)
-    print(f"script: {CALLS} calls, {len(script)} bytes")
+        programs["peer"] = (timing.peer(), state_calls, 0)
     seconds = timing.least(programs)
     added = seconds["run"] - seconds["direct"]
     print(f"run: {seconds['run'] / seconds['direct']:.2f} of the time of direct")
@@ -53,6 +70,10 @@ def main():
     print(f"the layer: {added / seconds['reading']:.2f} of the time of reading")
     if "peer" in seconds:
         print(f"run: {seconds['run'] / seconds['peer']:.2f} of the peer's time")
+    few = {"run": lambda: unended(FEW) + b"end\n", "direct": lambda: unended(FEW) + b"end\n", "reading": lambda: unended(FEW)}
+    counts = [timing.instructions(programs[name][0], few[name]) for name in few]
+    if all(counts):
+        print(f"the front alone: {front_share(*counts):.3f} of the instructions of reading, in {FEW} calls")
 
 
 if __name__ == "__main__":

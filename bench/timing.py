@@ -1,7 +1,9 @@
 """Times programs on a script, in turns, and prints what they took."""
 
 import os
+import re
 import shlex
+import shutil
 import subprocess
 import sys
 import tempfile
@@ -9,7 +11,7 @@ import time
 from pathlib import Path
 
 PROGRAM = Path(__file__).resolve().parent.parent / "crates/glreplay/out/glreplay"
-RUNS = 5
+RUNS = 15
 
 
 def peer():
@@ -18,6 +20,18 @@ def peer():
     if words and "/" in words[0]:
         words[0] = str(Path(words[0]).resolve())
     return words or None
+
+
+def write(path, make):
+    """Writes the bytes that a function makes, in a process of its own, whose memory then doesn't count in a peak. Gives
+    how many there are."""
+    child = os.fork()
+    if child == 0:
+        path.write_bytes(make())
+        os._exit(0)
+    if os.waitpid(child, 0)[1]:
+        sys.exit(f"{path.name} wasn't written")
+    return path.stat().st_size
 
 
 def run(words, script, folder, status):
@@ -32,16 +46,32 @@ def run(words, script, folder, status):
     return seconds, used.ru_maxrss
 
 
+def instructions(words, make):
+    """How many instructions each function of a program carries out, by valgrind, or None without it."""
+    if not shutil.which("valgrind"):
+        return None
+    with tempfile.TemporaryDirectory() as room:
+        folder = Path(room)
+        write(folder / "script.gls", make)
+        counting = ["valgrind", "--tool=callgrind", "--callgrind-out-file=counts", *words]
+        with open(folder / "script.gls", "rb") as given:
+            subprocess.run(counting, stdin=given, capture_output=True, cwd=folder)
+        told = subprocess.run(["callgrind_annotate", "counts"], capture_output=True, text=True, cwd=folder).stdout
+    rows = re.findall(r"^ *([\d,]+) \(.*?\)  \S+?:(\S+)", told, re.M)
+    return {function: int(count.replace(",", "")) for count, function in rows} or None
+
+
 def least(programs):
-    """The least seconds of each program, given as name: (words, script, status). Prints them, and a bound on each peak
-    memory, in which this script's own may count."""
+    """The least seconds of each program, given as name: (words, function that makes the script, status). Prints them,
+    and a bound on each peak memory, in which that of this process counts."""
     if not PROGRAM.exists():
         sys.exit("first build the program: ./run")
     seconds, peak = {}, {}
     with tempfile.TemporaryDirectory() as room:
         folder = Path(room)
-        for name, (_, script, _) in programs.items():
-            (folder / f"{name}.gls").write_bytes(script)
+        for name, (_, make, _) in programs.items():
+            size = write(folder / f"{name}.gls", make)
+            print(f"{name}: a script of {size} bytes")
         for _ in range(RUNS):
             for name, (words, _, status) in programs.items():
                 took, memory = run(words, folder / f"{name}.gls", folder, status)
