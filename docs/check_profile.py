@@ -9,7 +9,7 @@ TOP = Path(__file__).resolve().parent.parent
 WORDS = TOP / "crates/gl_words"
 DRIVER = TOP / "crates/driver_trait"
 SHADOW = TOP / "crates/client_shadow"
-KINDS = {"Enum": "enumerant", "Unsigned": "unsigned", "Int": "integer", "Fixed": "fixed", "Bool": "boolean", "Pointer": "address"}
+KINDS = {"Enum": "enumerant", "Unsigned": "unsigned", "Int": "integer", "Fixed": "fixed", "Bool": "truth", "Pointer": "address"}
 
 
 def definition(path, name):
@@ -71,15 +71,24 @@ def main():
     said = {row[0]: sorted(row[1].split(", ")) for row in table("Which calls wait")}
     if said != classes(answering):
         wrong.append("PROFILE.md, Which calls wait: differs from crates/client_shadow/specs/Class.antt")
-    named = dict(re.findall(r'codes "(\w+)", (0x\w+)', (WORDS / "specs/Names.antt").read_text()))
+    rows = re.findall(r'codes "(\w+)", (\w+)', (WORDS / "specs/Names.antt").read_text())
+    named = {name: int(number, 0) for name, number in rows}
     said = {}
     for row in table("Names of the gets"):
         if row[2:] and row[2].startswith("0x"):
             said.setdefault((row[0], len(row) == 4), []).extend(row[2].split(", "))
-            if [named.get(name) for name in row[1].split(", ")] != row[2].split(", "):
+            if [named.get(name) for name in row[1].split(", ")] != [int(number, 0) for number in row[2].split(", ")]:
                 wrong.append(f"PROFILE.md, Names of the gets: {row[1]} differs from crates/gl_words/specs/Names.antt")
     if {key: sorted(found) for key, found in said.items()} != gets():
         wrong.append("PROFILE.md, Names of the gets: differs from crates/driver_trait/specs/Gets.antt")
+    known = {}
+    for row in table("Names"):
+        known.update(zip(row[1].split(", "), row[2].split(", "), strict=True))
+    for row in table("Names of the gets"):
+        if row[2:] and row[2].startswith("0x"):
+            known.update(zip(row[1].split(", "), row[2].split(", "), strict=True))
+    if {name: int(number, 0) for name, number in known.items()} != named:
+        wrong.append("PROFILE.md, Names: differs from crates/gl_words/specs/Names.antt")
     for line in wrong:
         print(line)
     print(f"docs/check_profile.py: {'FAILED' if wrong else 'the tables agree'}")
