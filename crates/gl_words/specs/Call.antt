@@ -1,138 +1,130 @@
--- The table of calls, a column a definition. Its names and numbers are this project's own; the calls and their arguments are those of OpenGL ES 1.1.12.
+-- The table of calls, a row a call. Its names and numbers are this project's own; the calls and their arguments are those of OpenGL ES 1.1.12.
 use Rattle.std.specs.Prelude.{Bool, true, false, ℕ, ℤ, pos, List, [], ◌∷◌, codes}
 use Rattle.gl_words.specs.Kind.{AreOfKinds}
+use Rattle.gl_words.specs.Making.{◌&◌, Maker, Values, integers, values_at, made_by}
 use Rattle.gl_words.specs.declared.shape.ArgKind.{ArgKind}
 use Rattle.gl_words.specs.declared.shape.ArgKind.TheVariants.{Enum, Unsigned, Int, Fixed, Pointer}
 use Rattle.gl_words.specs.declared.call.Call.{Call}
-use Rattle.gl_words.specs.declared.call.Call.TheVariants.{ActiveTexture, Clear, ClearColorx, ClientActiveTexture, ColorPointer, DisableClientState, EnableClientState, Finish, Flush, Frustumx, GetError, GetFixedv, GetIntegerv, GetPointerv, IsEnabled, LoadIdentity, MatrixMode, NormalPointer, Orthox, PixelStorei, PopMatrix, PushMatrix, ReadPixels, Rotatex, Scalex, TexCoordPointer, Translatex, VertexPointer, Viewport}
+use Rattle.gl_words.specs.declared.call.Call.TheVariants as gl
+
+-- a call's number, its name without `gl`, the kinds of its arguments, what makes such a call and what this one holds, its
+-- arguments, the call that integers at places 0, 1, .. make, and whether it is answered; own
+pub record Row : Type 0 where
+  pub id : ℕ
+  pub name : List ℕ
+  pub kinds : List ArgKind
+  pub make : Maker kinds
+  pub values : Values kinds
+  pub arguments : List ℤ
+  pub again : List ℤ → Call
+  pub answering : Bool
+
+-- a row of which the rest follows; own
+abbrev pub row : ℕ → List ℕ → (kinds : List ArgKind) → Maker kinds → Values kinds → Bool → Row
+row id name kinds make values answering = record {
+  id = id;
+  name = name;
+  kinds = kinds;
+  make = make;
+  values = values;
+  arguments = integers kinds values;
+  again = λ args. made_by kinds make (values_at kinds args 0);
+  answering = answering;
+}
+
+-- a row of the part of the table whose calls aren't answered; own
+abbrev pub does : ℕ → List ℕ → (kinds : List ArgKind) → Maker kinds → Values kinds → Row
+does id name kinds make values = row id name kinds make values false
+
+-- a row of the answering part of the table; own
+abbrev pub asks : ℕ → List ℕ → (kinds : List ArgKind) → Maker kinds → Values kinds → Row
+asks id name kinds make values = row id name kinds make values true
+
+-- the row of a call: names and arguments are those of chapters 2 to 6, kinds those of section 2.3, numbers own
+unfoldable pub row_of : Call → Row
+row_of (gl.ActiveTexture texture) = does 1 (codes "ActiveTexture") (Enum ∷ []) gl.ActiveTexture (texture & tt)
+row_of (gl.Clear mask) = does 8 (codes "Clear") (Unsigned ∷ []) gl.Clear (mask & tt)
+row_of (gl.ClearColorx red green blue alpha) = does 9 (codes "ClearColorx") (Fixed ∷ Fixed ∷ Fixed ∷ Fixed ∷ []) gl.ClearColorx (red & green & blue & alpha & tt)
+row_of (gl.ClientActiveTexture texture) = does 11 (codes "ClientActiveTexture") (Enum ∷ []) gl.ClientActiveTexture (texture & tt)
+row_of (gl.ColorPointer size kind stride pointer) = does 14 (codes "ColorPointer") (Int ∷ Enum ∷ Int ∷ Pointer ∷ []) gl.ColorPointer (size & kind & stride & pointer & tt)
+row_of (gl.DisableClientState array) = does 22 (codes "DisableClientState") (Enum ∷ []) gl.DisableClientState (array & tt)
+row_of (gl.EnableClientState array) = does 26 (codes "EnableClientState") (Enum ∷ []) gl.EnableClientState (array & tt)
+row_of gl.Finish = does 27 (codes "Finish") [] gl.Finish tt
+row_of gl.Flush = does 28 (codes "Flush") [] gl.Flush tt
+row_of (gl.Frustumx left right bottom top near far) = does 30 (codes "Frustumx") (Fixed ∷ Fixed ∷ Fixed ∷ Fixed ∷ Fixed ∷ Fixed ∷ []) gl.Frustumx (left & right & bottom & top & near & far & tt)
+row_of gl.GetError = asks 33 (codes "GetError") [] gl.GetError tt
+row_of (gl.GetFixedv pname params) = asks 34 (codes "GetFixedv") (Enum ∷ Pointer ∷ []) gl.GetFixedv (pname & params & tt)
+row_of (gl.GetIntegerv pname params) = asks 35 (codes "GetIntegerv") (Enum ∷ Pointer ∷ []) gl.GetIntegerv (pname & params & tt)
+row_of (gl.GetPointerv pname params) = asks 36 (codes "GetPointerv") (Enum ∷ Pointer ∷ []) gl.GetPointerv (pname & params & tt)
+row_of (gl.IsEnabled cap) = asks 38 (codes "IsEnabled") (Enum ∷ []) gl.IsEnabled (cap & tt)
+row_of gl.LoadIdentity = does 40 (codes "LoadIdentity") [] gl.LoadIdentity tt
+row_of (gl.MatrixMode mode) = does 42 (codes "MatrixMode") (Enum ∷ []) gl.MatrixMode (mode & tt)
+row_of (gl.NormalPointer kind stride pointer) = does 46 (codes "NormalPointer") (Enum ∷ Int ∷ Pointer ∷ []) gl.NormalPointer (kind & stride & pointer & tt)
+row_of (gl.Orthox left right bottom top near far) = does 47 (codes "Orthox") (Fixed ∷ Fixed ∷ Fixed ∷ Fixed ∷ Fixed ∷ Fixed ∷ []) gl.Orthox (left & right & bottom & top & near & far & tt)
+row_of (gl.PixelStorei pname param) = does 48 (codes "PixelStorei") (Enum ∷ Int ∷ []) gl.PixelStorei (pname & param & tt)
+row_of gl.PopMatrix = does 49 (codes "PopMatrix") [] gl.PopMatrix tt
+row_of gl.PushMatrix = does 50 (codes "PushMatrix") [] gl.PushMatrix tt
+row_of (gl.ReadPixels x y width height format kind pixels) = asks 51 (codes "ReadPixels") (Int ∷ Int ∷ Int ∷ Int ∷ Enum ∷ Enum ∷ Pointer ∷ []) gl.ReadPixels (x & y & width & height & format & kind & pixels & tt)
+row_of (gl.Rotatex angle x y z) = does 52 (codes "Rotatex") (Fixed ∷ Fixed ∷ Fixed ∷ Fixed ∷ []) gl.Rotatex (angle & x & y & z & tt)
+row_of (gl.Scalex x y z) = does 53 (codes "Scalex") (Fixed ∷ Fixed ∷ Fixed ∷ []) gl.Scalex (x & y & z & tt)
+row_of (gl.TexCoordPointer size kind stride pointer) = does 56 (codes "TexCoordPointer") (Int ∷ Enum ∷ Int ∷ Pointer ∷ []) gl.TexCoordPointer (size & kind & stride & pointer & tt)
+row_of (gl.Translatex x y z) = does 62 (codes "Translatex") (Fixed ∷ Fixed ∷ Fixed ∷ []) gl.Translatex (x & y & z & tt)
+row_of (gl.VertexPointer size kind stride pointer) = does 63 (codes "VertexPointer") (Int ∷ Enum ∷ Int ∷ Pointer ∷ []) gl.VertexPointer (size & kind & stride & pointer & tt)
+row_of (gl.Viewport x y width height) = does 64 (codes "Viewport") (Int ∷ Int ∷ Int ∷ Int ∷ []) gl.Viewport (x & y & width & height & tt)
+
+-- one call of each row, in the order of their numbers; own
+abbrev pub each_call : List Call
+each_call =
+    gl.ActiveTexture 0 ∷
+    gl.Clear 0 ∷
+    gl.ClearColorx (pos 0) (pos 0) (pos 0) (pos 0) ∷
+    gl.ClientActiveTexture 0 ∷
+    gl.ColorPointer (pos 0) 0 (pos 0) 0 ∷
+    gl.DisableClientState 0 ∷
+    gl.EnableClientState 0 ∷
+    gl.Finish ∷
+    gl.Flush ∷
+    gl.Frustumx (pos 0) (pos 0) (pos 0) (pos 0) (pos 0) (pos 0) ∷
+    gl.GetError ∷
+    gl.GetFixedv 0 0 ∷
+    gl.GetIntegerv 0 0 ∷
+    gl.GetPointerv 0 0 ∷
+    gl.IsEnabled 0 ∷
+    gl.LoadIdentity ∷
+    gl.MatrixMode 0 ∷
+    gl.NormalPointer 0 (pos 0) 0 ∷
+    gl.Orthox (pos 0) (pos 0) (pos 0) (pos 0) (pos 0) (pos 0) ∷
+    gl.PixelStorei 0 (pos 0) ∷
+    gl.PopMatrix ∷
+    gl.PushMatrix ∷
+    gl.ReadPixels (pos 0) (pos 0) (pos 0) (pos 0) 0 0 0 ∷
+    gl.Rotatex (pos 0) (pos 0) (pos 0) (pos 0) ∷
+    gl.Scalex (pos 0) (pos 0) (pos 0) ∷
+    gl.TexCoordPointer (pos 0) 0 (pos 0) 0 ∷
+    gl.Translatex (pos 0) (pos 0) (pos 0) ∷
+    gl.VertexPointer (pos 0) 0 (pos 0) 0 ∷
+    gl.Viewport (pos 0) (pos 0) (pos 0) (pos 0) ∷
+    []
 
 -- the name of a call, without `gl`; chapters 2 to 6
 unfoldable pub name_of : Call → List ℕ
-name_of (ActiveTexture texture) = codes "ActiveTexture"
-name_of (Clear mask) = codes "Clear"
-name_of (ClearColorx red green blue alpha) = codes "ClearColorx"
-name_of (ClientActiveTexture texture) = codes "ClientActiveTexture"
-name_of (ColorPointer size kind stride pointer) = codes "ColorPointer"
-name_of (DisableClientState array) = codes "DisableClientState"
-name_of (EnableClientState array) = codes "EnableClientState"
-name_of Finish = codes "Finish"
-name_of Flush = codes "Flush"
-name_of (Frustumx left right bottom top near far) = codes "Frustumx"
-name_of GetError = codes "GetError"
-name_of (GetFixedv pname params) = codes "GetFixedv"
-name_of (GetIntegerv pname params) = codes "GetIntegerv"
-name_of (GetPointerv pname params) = codes "GetPointerv"
-name_of (IsEnabled cap) = codes "IsEnabled"
-name_of LoadIdentity = codes "LoadIdentity"
-name_of (MatrixMode mode) = codes "MatrixMode"
-name_of (NormalPointer kind stride pointer) = codes "NormalPointer"
-name_of (Orthox left right bottom top near far) = codes "Orthox"
-name_of (PixelStorei pname param) = codes "PixelStorei"
-name_of PopMatrix = codes "PopMatrix"
-name_of PushMatrix = codes "PushMatrix"
-name_of (ReadPixels x y width height format kind pixels) = codes "ReadPixels"
-name_of (Rotatex angle x y z) = codes "Rotatex"
-name_of (Scalex x y z) = codes "Scalex"
-name_of (TexCoordPointer size kind stride pointer) = codes "TexCoordPointer"
-name_of (Translatex x y z) = codes "Translatex"
-name_of (VertexPointer size kind stride pointer) = codes "VertexPointer"
-name_of (Viewport x y width height) = codes "Viewport"
+unfolding row_of
+name_of call = (row_of call).name
 
 -- the number of a call; own
 unfoldable pub id_of : Call → ℕ
-id_of (ActiveTexture texture) = 1
-id_of (Clear mask) = 8
-id_of (ClearColorx red green blue alpha) = 9
-id_of (ClientActiveTexture texture) = 11
-id_of (ColorPointer size kind stride pointer) = 14
-id_of (DisableClientState array) = 22
-id_of (EnableClientState array) = 26
-id_of Finish = 27
-id_of Flush = 28
-id_of (Frustumx left right bottom top near far) = 30
-id_of GetError = 33
-id_of (GetFixedv pname params) = 34
-id_of (GetIntegerv pname params) = 35
-id_of (GetPointerv pname params) = 36
-id_of (IsEnabled cap) = 38
-id_of LoadIdentity = 40
-id_of (MatrixMode mode) = 42
-id_of (NormalPointer kind stride pointer) = 46
-id_of (Orthox left right bottom top near far) = 47
-id_of (PixelStorei pname param) = 48
-id_of PopMatrix = 49
-id_of PushMatrix = 50
-id_of (ReadPixels x y width height format kind pixels) = 51
-id_of (Rotatex angle x y z) = 52
-id_of (Scalex x y z) = 53
-id_of (TexCoordPointer size kind stride pointer) = 56
-id_of (Translatex x y z) = 62
-id_of (VertexPointer size kind stride pointer) = 63
-id_of (Viewport x y width height) = 64
+unfolding row_of
+id_of call = (row_of call).id
 
 -- the kinds of a call's arguments, in order; section 2.3
 unfoldable pub kinds_of : Call → List ArgKind
-kinds_of (ActiveTexture texture) = Enum ∷ []
-kinds_of (Clear mask) = Unsigned ∷ []
-kinds_of (ClearColorx red green blue alpha) = Fixed ∷ Fixed ∷ Fixed ∷ Fixed ∷ []
-kinds_of (ClientActiveTexture texture) = Enum ∷ []
-kinds_of (ColorPointer size kind stride pointer) = Int ∷ Enum ∷ Int ∷ Pointer ∷ []
-kinds_of (DisableClientState array) = Enum ∷ []
-kinds_of (EnableClientState array) = Enum ∷ []
-kinds_of Finish = []
-kinds_of Flush = []
-kinds_of (Frustumx left right bottom top near far) = Fixed ∷ Fixed ∷ Fixed ∷ Fixed ∷ Fixed ∷ Fixed ∷ []
-kinds_of GetError = []
-kinds_of (GetFixedv pname params) = Enum ∷ Pointer ∷ []
-kinds_of (GetIntegerv pname params) = Enum ∷ Pointer ∷ []
-kinds_of (GetPointerv pname params) = Enum ∷ Pointer ∷ []
-kinds_of (IsEnabled cap) = Enum ∷ []
-kinds_of LoadIdentity = []
-kinds_of (MatrixMode mode) = Enum ∷ []
-kinds_of (NormalPointer kind stride pointer) = Enum ∷ Int ∷ Pointer ∷ []
-kinds_of (Orthox left right bottom top near far) = Fixed ∷ Fixed ∷ Fixed ∷ Fixed ∷ Fixed ∷ Fixed ∷ []
-kinds_of (PixelStorei pname param) = Enum ∷ Int ∷ []
-kinds_of PopMatrix = []
-kinds_of PushMatrix = []
-kinds_of (ReadPixels x y width height format kind pixels) = Int ∷ Int ∷ Int ∷ Int ∷ Enum ∷ Enum ∷ Pointer ∷ []
-kinds_of (Rotatex angle x y z) = Fixed ∷ Fixed ∷ Fixed ∷ Fixed ∷ []
-kinds_of (Scalex x y z) = Fixed ∷ Fixed ∷ Fixed ∷ []
-kinds_of (TexCoordPointer size kind stride pointer) = Int ∷ Enum ∷ Int ∷ Pointer ∷ []
-kinds_of (Translatex x y z) = Fixed ∷ Fixed ∷ Fixed ∷ []
-kinds_of (VertexPointer size kind stride pointer) = Int ∷ Enum ∷ Int ∷ Pointer ∷ []
-kinds_of (Viewport x y width height) = Int ∷ Int ∷ Int ∷ Int ∷ []
+unfolding row_of
+kinds_of call = (row_of call).kinds
 
 -- a call's arguments as integers, in order; section 2.3
 unfoldable pub arguments : Call → List ℤ
-arguments (ActiveTexture texture) = pos texture ∷ []
-arguments (Clear mask) = pos mask ∷ []
-arguments (ClearColorx red green blue alpha) = red ∷ green ∷ blue ∷ alpha ∷ []
-arguments (ClientActiveTexture texture) = pos texture ∷ []
-arguments (ColorPointer size kind stride pointer) = size ∷ pos kind ∷ stride ∷ pos pointer ∷ []
-arguments (DisableClientState array) = pos array ∷ []
-arguments (EnableClientState array) = pos array ∷ []
-arguments Finish = []
-arguments Flush = []
-arguments (Frustumx left right bottom top near far) = left ∷ right ∷ bottom ∷ top ∷ near ∷ far ∷ []
-arguments GetError = []
-arguments (GetFixedv pname params) = pos pname ∷ pos params ∷ []
-arguments (GetIntegerv pname params) = pos pname ∷ pos params ∷ []
-arguments (GetPointerv pname params) = pos pname ∷ pos params ∷ []
-arguments (IsEnabled cap) = pos cap ∷ []
-arguments LoadIdentity = []
-arguments (MatrixMode mode) = pos mode ∷ []
-arguments (NormalPointer kind stride pointer) = pos kind ∷ stride ∷ pos pointer ∷ []
-arguments (Orthox left right bottom top near far) = left ∷ right ∷ bottom ∷ top ∷ near ∷ far ∷ []
-arguments (PixelStorei pname param) = pos pname ∷ param ∷ []
-arguments PopMatrix = []
-arguments PushMatrix = []
-arguments (ReadPixels x y width height format kind pixels) = x ∷ y ∷ width ∷ height ∷ pos format ∷ pos kind ∷ pos pixels ∷ []
-arguments (Rotatex angle x y z) = angle ∷ x ∷ y ∷ z ∷ []
-arguments (Scalex x y z) = x ∷ y ∷ z ∷ []
-arguments (TexCoordPointer size kind stride pointer) = size ∷ pos kind ∷ stride ∷ pos pointer ∷ []
-arguments (Translatex x y z) = x ∷ y ∷ z ∷ []
-arguments (VertexPointer size kind stride pointer) = size ∷ pos kind ∷ stride ∷ pos pointer ∷ []
-arguments (Viewport x y width height) = x ∷ y ∷ width ∷ height ∷ []
+unfolding row_of
+arguments call = (row_of call).arguments
 
 -- each argument of a call lies in the range of its kind; own
 unfoldable pub IsInRange : Call → Type 0
@@ -140,32 +132,10 @@ IsInRange call = AreOfKinds (kinds_of call) (arguments call)
 
 -- whether a call is answered: whether it stands in the answering part of the table; own
 unfoldable pub is_answering : Call → Bool
-is_answering (ActiveTexture texture) = false
-is_answering (Clear mask) = false
-is_answering (ClearColorx red green blue alpha) = false
-is_answering (ClientActiveTexture texture) = false
-is_answering (ColorPointer size kind stride pointer) = false
-is_answering (DisableClientState array) = false
-is_answering (EnableClientState array) = false
-is_answering Finish = false
-is_answering Flush = false
-is_answering (Frustumx left right bottom top near far) = false
-is_answering GetError = true
-is_answering (GetFixedv pname params) = true
-is_answering (GetIntegerv pname params) = true
-is_answering (GetPointerv pname params) = true
-is_answering (IsEnabled cap) = true
-is_answering LoadIdentity = false
-is_answering (MatrixMode mode) = false
-is_answering (NormalPointer kind stride pointer) = false
-is_answering (Orthox left right bottom top near far) = false
-is_answering (PixelStorei pname param) = false
-is_answering PopMatrix = false
-is_answering PushMatrix = false
-is_answering (ReadPixels x y width height format kind pixels) = true
-is_answering (Rotatex angle x y z) = false
-is_answering (Scalex x y z) = false
-is_answering (TexCoordPointer size kind stride pointer) = false
-is_answering (Translatex x y z) = false
-is_answering (VertexPointer size kind stride pointer) = false
-is_answering (Viewport x y width height) = false
+unfolding row_of
+is_answering call = (row_of call).answering
+
+-- the call of a call's row that holds the integers at places 0, 1, ..; own
+unfoldable pub again_of : Call → List ℤ → Call
+unfolding row_of
+again_of call args = (row_of call).again args

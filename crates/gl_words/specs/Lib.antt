@@ -6,3 +6,5 @@ pub mod Lookup
 pub mod Making
 pub mod Names
 pub mod Shape
+pub mod Slots
+pub mod Table

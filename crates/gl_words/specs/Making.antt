@@ -1,5 +1,5 @@
--- The call that is made of integers, where they are of given kinds. Which call has which kinds is told in `Call.antt`.
-use Rattle.std.specs.Prelude.{Bool, true, false, ℕ, ℤ, pos, negsuc, ◌^◌, Option, Some, None, option_and_then, unwrap_or, is_some, if◌then◌else◌, nat_lt, ◌==◌, List, [], ◌∷◌, slice_index_or}
+-- What a call holds for integers of given kinds, and the call that is made of it. Which call has which kinds is told in `Call.antt`.
+use Rattle.std.specs.Prelude.{Bool, true, false, ℕ, suc, ℤ, pos, negsuc, ◌^◌, Option, Some, None, unwrap_or, is_some, if◌then◌else◌, nat_lt, ◌==◌, List, [], ◌∷◌, slice_index_or}
 use Rattle.gl_words.specs.declared.shape.ArgKind.{ArgKind}
 use Rattle.gl_words.specs.declared.shape.ArgKind.TheVariants.{Enum, Unsigned, Int, Fixed, Bool as Truth, Pointer}
 use Rattle.gl_words.specs.declared.call.Call.{Call}
@@ -19,36 +19,6 @@ abbrev pub truth_of : ℤ → Option Bool
 truth_of (pos n) = if n == 0 then Some false else (if n == 1 then Some true else None)
 truth_of (negsuc n) = None
 
--- what a call holds for an argument of this kind; own
-abbrev pub Value : ArgKind → Type 0
-Value Enum = ℕ
-Value Unsigned = ℕ
-Value Int = ℤ
-Value Fixed = ℤ
-Value Truth = Bool
-Value Pointer = ℕ
-
--- an integer as the value that a call holds, where it is one of the kind; own
-abbrev pub value_of : (kind : ArgKind) → ℤ → Option (Value kind)
-value_of Enum z = unsigned_of z
-value_of Unsigned z = unsigned_of z
-value_of Int z = signed_of z
-value_of Fixed z = signed_of z
-value_of Truth z = truth_of z
-value_of Pointer z = unsigned_of z
-
--- what makes a call of a value of each kind, one after another; own
-abbrev pub Maker : List ArgKind → Type 0
-Maker [] = Call
-Maker (kind ∷ kinds) = Value kind → Maker kinds
-
--- the call that is made of integers, where there are as many as kinds and each is of its kind; own
-unfoldable pub made_of : (kinds : List ArgKind) → Maker kinds → List ℤ → Option Call
-made_of [] call [] = Some call
-made_of [] call (z ∷ zs) = None
-made_of (kind ∷ kinds) make [] = None
-made_of (kind ∷ kinds) make (z ∷ zs) = option_and_then (λ value. made_of kinds (make value) zs) (value_of kind z)
-
 -- whether an integer is of a kind; own
 abbrev pub is_of_kind : ArgKind → ℤ → Bool
 is_of_kind Enum z = is_some (unsigned_of z)
@@ -65,6 +35,49 @@ fits [] (z ∷ zs) = false
 fits (kind ∷ kinds) [] = false
 fits (kind ∷ kinds) (z ∷ zs) = if is_of_kind kind z then fits kinds zs else false
 
+-- what a call holds for an argument of this kind; own
+abbrev pub Value : ArgKind → Type 0
+Value Enum = ℕ
+Value Unsigned = ℕ
+Value Int = ℤ
+Value Fixed = ℤ
+Value Truth = Bool
+Value Pointer = ℕ
+
+-- what a call holds for arguments of these kinds; own
+abbrev pub Values : List ArgKind → Type 0
+Values [] = Unit {0}
+Values (kind ∷ kinds) = Value kind × Values kinds
+
+infixr 6 ◌&◌
+-- a value, and those behind it; own
+abbrev pub ◌&◌ : {A B : Type 0} → A → B → A × B
+value & values = (value, values)
+
+-- what makes a call of a value of each kind, one after another; own
+abbrev pub Maker : List ArgKind → Type 0
+Maker [] = Call
+Maker (kind ∷ kinds) = Value kind → Maker kinds
+
+-- a truth value as an integer; section 2.3
+abbrev pub truth_number : Bool → ℤ
+truth_number false = pos 0
+truth_number true = pos 1
+
+-- the integer that a value is; own
+abbrev pub integer_of : (kind : ArgKind) → Value kind → ℤ
+integer_of Enum value = pos value
+integer_of Unsigned value = pos value
+integer_of Int value = value
+integer_of Fixed value = value
+integer_of Truth value = truth_number value
+integer_of Pointer value = pos value
+
+-- the integers that values are; own
+abbrev pub integers : (kinds : List ArgKind) → Values kinds → List ℤ
+integers [] values = []
+integers (kind ∷ kinds) values = integer_of kind (values.0) ∷ integers kinds (values.1)
+
 -- the integer at a place as a signed number of 32 bits; 0 where it is none, or no integer stands there; own
 unfoldable pub signed_at : List ℤ → ℕ → ℤ
 signed_at args at = unwrap_or (signed_of (slice_index_or args at (pos 0))) (pos 0)
@@ -72,3 +85,26 @@ signed_at args at = unwrap_or (signed_of (slice_index_or args at (pos 0))) (pos 
 -- the integer at a place as a number without sign of 32 bits; 0 where it is none, or no integer stands there; own
 unfoldable pub unsigned_at : List ℤ → ℕ → ℕ
 unsigned_at args at = unwrap_or (unsigned_of (slice_index_or args at (pos 0))) 0
+
+-- the integer at a place as a truth value; false where it is none, or no integer stands there; own
+unfoldable pub truth_at : List ℤ → ℕ → Bool
+truth_at args at = unwrap_or (truth_of (slice_index_or args at (pos 0))) false
+
+-- the integer at a place as a value of a kind; own
+abbrev pub value_at : (kind : ArgKind) → List ℤ → ℕ → Value kind
+value_at Enum args at = unsigned_at args at
+value_at Unsigned args at = unsigned_at args at
+value_at Int args at = signed_at args at
+value_at Fixed args at = signed_at args at
+value_at Truth args at = truth_at args at
+value_at Pointer args at = unsigned_at args at
+
+-- the values of the integers from a place on; own
+abbrev pub values_at : (kinds : List ArgKind) → List ℤ → ℕ → Values kinds
+values_at [] args at = tt
+values_at (kind ∷ kinds) args at = (value_at kind args at, values_at kinds args (suc at))
+
+-- the call that is made of values; own
+abbrev pub made_by : (kinds : List ArgKind) → Maker kinds → Values kinds → Call
+made_by [] call values = call
+made_by (kind ∷ kinds) make values = made_by kinds (make (values.0)) (values.1)

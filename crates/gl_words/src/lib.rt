@@ -1,23 +1,23 @@
 //! The calls of OpenGL ES 1.1 that this profile has, with their numbers, arguments and names.
 #![tactic(auto)]
 
+mod arguments;
 mod call;
+mod debug;
 mod error;
-mod first_rows;
-mod fourth_rows;
 mod laws;
 mod making;
 mod names;
-mod second_rows;
 mod shape;
 mod table;
 #[cfg(test)]
 mod tests;
-mod third_rows;
 
-pub use call::{Call, arg_at, arg_count, call_id, call_name, in_range, is_answering};
+pub use arguments::{Arguments, arg_at, arguments_of};
+pub use call::Call;
 pub use error::GlError;
 pub use laws::call_law;
+pub use making::{call_from, call_in};
 pub use names::number_of_enum;
 pub use shape::{ArgKind, Shape, shape_of_name};
-pub use table::{arg_count_of, call_from};
+pub use table::{arg_count, arg_count_of, call_id, call_name, is_answering};

@@ -1,15 +1,217 @@
-//! The calls that numbers and arguments are. The table the other way round stands in `call.rt`.
+//! The table of calls: a row a call, which stands here once. What a row means is told in `specs/Call.antt`, and how
+//! arguments are read and made in `arguments.rt` and `making.rt`.
 
-ghost use Rattle.std.specs.Prelude.{◌≡◌, IfSome, length, Some};
-ghost use Rattle.gl_words.specs.Call.{id_of, arguments, IsInRange};
-ghost use Rattle.gl_words.specs.CallOf.{call_of, argument_count};
+ghost use Rattle.std.specs.Prelude.{◌≡◌, IfSome, IsTrue, MatchOption, Some, None, length, ◌≤◌};
+ghost use Rattle.gl_words.specs.Call.{id_of, name_of, kinds_of, arguments, is_answering, IsInRange};
+ghost use Rattle.gl_words.specs.CallOf.{argument_count, call_numbered};
+ghost use Rattle.gl_words.specs.Table.{told, told_by, IsTable, IsRowOf};
 ghost use Rattle.gl_words.specs.declared.call.Call.{Call};
 
 use crate::call::Call;
-use crate::first_rows::{first_count_from, first_from};
-use crate::fourth_rows::{fourth_count_from, fourth_from};
-use crate::second_rows::{second_count_from, second_from};
-use crate::third_rows::{third_count_from, third_from};
+use crate::shape::{ArgKind, Shape};
+
+/// Hands each row to another macro: the part of the table in which it stands (`asks` for calls that are answered,
+/// `none` for a number that no call has yet), the number, the name, and each argument with its kind.
+macro_rules! rows {
+    ($then:ident($($given:tt)*)) => {
+        $then! { ($($given)*)
+            does 1 ActiveTexture { texture: Enum };
+            none 2;
+            none 3;
+            none 4;
+            none 5;
+            none 6;
+            none 7;
+            does 8 Clear { mask: Unsigned };
+            does 9 ClearColorx { red: Fixed, green: Fixed, blue: Fixed, alpha: Fixed };
+            none 10;
+            does 11 ClientActiveTexture { texture: Enum };
+            none 12;
+            none 13;
+            does 14 ColorPointer { size: Int, kind: Enum, stride: Int, pointer: Pointer };
+            none 15;
+            none 16;
+            none 17;
+            none 18;
+            none 19;
+            none 20;
+            none 21;
+            does 22 DisableClientState { array: Enum };
+            none 23;
+            none 24;
+            none 25;
+            does 26 EnableClientState { array: Enum };
+            does 27 Finish {};
+            does 28 Flush {};
+            none 29;
+            does 30 Frustumx { left: Fixed, right: Fixed, bottom: Fixed, top: Fixed, near: Fixed, far: Fixed };
+            none 31;
+            none 32;
+            asks 33 GetError {};
+            asks 34 GetFixedv { pname: Enum, params: Pointer };
+            asks 35 GetIntegerv { pname: Enum, params: Pointer };
+            asks 36 GetPointerv { pname: Enum, params: Pointer };
+            none 37;
+            asks 38 IsEnabled { cap: Enum };
+            none 39;
+            does 40 LoadIdentity {};
+            none 41;
+            does 42 MatrixMode { mode: Enum };
+            none 43;
+            none 44;
+            none 45;
+            does 46 NormalPointer { kind: Enum, stride: Int, pointer: Pointer };
+            does 47 Orthox { left: Fixed, right: Fixed, bottom: Fixed, top: Fixed, near: Fixed, far: Fixed };
+            does 48 PixelStorei { pname: Enum, param: Int };
+            does 49 PopMatrix {};
+            does 50 PushMatrix {};
+            asks 51 ReadPixels { x: Int, y: Int, width: Int, height: Int, format: Enum, kind: Enum, pixels: Pointer };
+            does 52 Rotatex { angle: Fixed, x: Fixed, y: Fixed, z: Fixed };
+            does 53 Scalex { x: Fixed, y: Fixed, z: Fixed };
+            none 54;
+            none 55;
+            does 56 TexCoordPointer { size: Int, kind: Enum, stride: Int, pointer: Pointer };
+            none 57;
+            none 58;
+            none 59;
+            none 60;
+            none 61;
+            does 62 Translatex { x: Fixed, y: Fixed, z: Fixed };
+            does 63 VertexPointer { size: Int, kind: Enum, stride: Int, pointer: Pointer };
+            does 64 Viewport { x: Int, y: Int, width: Int, height: Int };
+        }
+    };
+}
+
+pub(crate) use rows;
+
+/// A row of the table of calls: the name is that of OpenGL ES 1.1.12 without the prefix `gl`, the call one whose
+/// arguments are 0.
+pub(crate) struct TableRow {
+    pub(crate) name: &'static str,
+    pub(crate) shape: Shape,
+    pub(crate) answering: bool,
+    pub(crate) call: Call,
+}
+
+macro_rules! is_asking {
+    (does) => { false };
+    (asks) => { true };
+}
+
+macro_rules! zero {
+    (Bool) => { false };
+    ($kind:ident) => { 0 };
+}
+
+macro_rules! row {
+    (none $id:literal) => { None };
+    ($part:ident $id:literal $name:ident { $($field:ident: $kind:ident),* }) => {
+        Some(TableRow {
+            name: stringify!($name),
+            shape: Shape { id: $id, kinds: &[$(ArgKind::$kind),*] },
+            answering: is_asking!($part),
+            call: Call::$name { $($field: zero!($kind)),* },
+        })
+    };
+}
+
+macro_rules! listed {
+    (() $($part:ident $id:literal $($name:ident { $($field:ident: $kind:ident),* })?;)*) => {
+        [None, $(row!($part $id $($name { $($field: $kind),* })?)),*]
+    };
+}
+
+/// A row stands at the place of its number.
+static ROWS: [Option<TableRow>; 65] = rows!(listed());
+
+/// The rows, each at the place of its number.
+pub(crate) fn table() -> &'static [Option<TableRow>]
+    ensures { IsTable result.now }
+{
+    &ROWS
+}
+
+/// The row with this number. None exactly where no call has the number.
+pub(crate) fn row_numbered(id: u16) -> Option<&'static TableRow>
+    ensures { MatchOption result (call_numbered id ≡ None)
+        (λ row. (call : Call) × (call_numbered id ≡ Some call) × (told_by row.now ≡ told call)) }
+{
+    row_in(table(), id)
+}
+
+fn row_in<'a>(rows: &'a [Option<TableRow>], id: u16) -> Option<&'a TableRow>
+    requires { IsTable rows.now }
+    ensures { MatchOption result (call_numbered id ≡ None)
+        (λ row. (call : Call) × (call_numbered id ≡ Some call) × (told_by row.now ≡ told call)) }
+{
+    match rows.get(usize::from(id)) {
+        Some(Some(row)) => Some(row),
+        Some(None) => None,
+        None => None,
+    }
+}
+
+macro_rules! numbers {
+    (($call:ident) $($part:ident $id:literal $($name:ident { $($field:ident: $kind:ident),* })?;)*) => {
+        match &$call {
+            $($(Call::$name { $($field),* } => {
+                $(let _read = *$field;)*
+                $id
+            })?)*
+        }
+    };
+}
+
+#[tactic(auto, unfolding(crate::specs::Call::row_of, crate::specs::Call::id_of, crate::specs::Call::IsInRange, crate::specs::Call::kinds_of, crate::specs::Call::arguments))]
+fn number_of(call: Call) -> u16
+    ensures gives { result ≡ id_of call }
+    ensures in_range { IsInRange call }
+{
+    rows!(numbers(call))
+}
+
+/// The number of a call in the table of calls; own. Whoever asks for it knows that the arguments are in range.
+pub fn call_id(call: &Call) -> u16
+    ensures gives { result ≡ id_of call.now }
+    ensures in_range { IsInRange call.now }
+{
+    number_of(*call)
+}
+
+/// The row of a call.
+fn row_of(call: &Call) -> &'static TableRow
+    ensures row { IsRowOf result.now call.now }
+    ensures in_range { IsInRange call.now }
+{
+    match row_numbered(call_id(call)) {
+        Some(row) => row,
+        None => unreachable!(),
+    }
+}
+
+/// The name of a call, without the prefix `gl`.
+pub fn call_name(call: &Call) -> &'static str
+    ensures { result.now ≡ name_of call.now }
+{
+    row_of(call).name
+}
+
+/// How many arguments a call has: 0 to 9.
+pub fn arg_count(call: &Call) -> usize
+    ensures count { result ≡ length (arguments call.now) }
+    ensures few { result ≤ 9 }
+{
+    row_of(call).shape.kinds.len()
+}
+
+/// Whether a call is answered (sections 2.5, 4.3.1 and 6.1). Whoever asks knows that its arguments are in range.
+pub fn is_answering(call: &Call) -> bool
+    ensures gives { result ≡ is_answering call.now }
+    ensures in_range { IsInRange call.now }
+{
+    row_of(call).answering
+}
 
 /// How many arguments the call with this number has: 0 to 9. None exactly where no call has the number.
 #[tactic(auto, using(crate::proofs::Rows::counts))]
@@ -22,50 +224,11 @@ pub fn arg_count_of(id: u16) -> Option<usize>
     count_from(id)
 }
 
-#[tactic(auto, unfolding(crate::specs::CallOf::argument_count))]
 fn count_from(id: u16) -> Option<usize>
     ensures { result ≡ argument_count id }
 {
-    if id < 33 {
-        if id < 17 {
-            first_count_from(id)
-        } else {
-            second_count_from(id)
-        }
-    } else if id < 49 {
-        third_count_from(id)
-    } else {
-        fourth_count_from(id)
-    }
-}
-
-/// The call with this number and these arguments. None exactly where no call has the number, the
-/// number of arguments differs, or one is outside the range of its kind.
-#[tactic(auto, using(crate::proofs::Rows::rows))]
-pub fn call_from(id: u16, args: &[i64]) -> Option<Call>
-    ensures gives { result ≡ call_of id args.now }
-    ensures found { IfSome result
-        (λ call. (id_of call ≡ id) × (arguments call ≡ args.now) × IsInRange call) }
-    ensures only { (call : Call) → IsInRange call → id_of call ≡ id → arguments call ≡ args.now
-        → result ≡ Some call }
-{
-    row_from(id, args)
-}
-
-/// Sixteen numbers a group, since a match over more takes too long to prove.
-#[tactic(auto, unfolding(crate::specs::CallOf::call_of))]
-fn row_from(id: u16, args: &[i64]) -> Option<Call>
-    ensures { result ≡ call_of id args.now }
-{
-    if id < 33 {
-        if id < 17 {
-            first_from(id, args)
-        } else {
-            second_from(id, args)
-        }
-    } else if id < 49 {
-        third_from(id, args)
-    } else {
-        fourth_from(id, args)
+    match row_numbered(id) {
+        Some(row) => Some(row.shape.kinds.len()),
+        None => None,
     }
 }

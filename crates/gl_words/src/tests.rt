@@ -1,228 +1,87 @@
 //! What no clause says: that calls and names are found at all, against numbers from outside.
 
 use crate::{
-    Call, GlError, arg_at, arg_count, arg_count_of, call_from, call_id, call_law, call_name,
-    is_answering, number_of_enum, shape_of_name,
+    GlError, arg_at, arg_count, arg_count_of, arguments_of, call_from, call_id, call_in, call_law,
+    call_name, is_answering, number_of_enum, shape_of_name,
 };
 use std::process::Abort;
+use std::test::Fail;
+
+/// Each name with its number, arguments that such a call may have, and whether it is answered.
+static CALLS: [(&str, u16, &[i64], bool); 29] = [
+    ("ActiveTexture", 1, &[0x84C1], false),
+    ("Clear", 8, &[16384], false),
+    (
+        "ClearColorx",
+        9,
+        &[65536, -1, 2147483647, -2147483648],
+        false,
+    ),
+    ("ClientActiveTexture", 11, &[0x84C0], false),
+    ("ColorPointer", 14, &[4, 0x1401, -1, 4294967295], false),
+    ("DisableClientState", 22, &[0x8076], false),
+    ("EnableClientState", 26, &[0x8078], false),
+    ("Finish", 27, &[], false),
+    ("Flush", 28, &[], false),
+    ("Frustumx", 30, &[1, 2, 3, 4, 5, 6], false),
+    ("GetError", 33, &[], true),
+    ("GetFixedv", 34, &[0x0B00, 16], true),
+    ("GetIntegerv", 35, &[0x0BA2, 4294967295], true),
+    ("GetPointerv", 36, &[0x808E, 8], true),
+    ("IsEnabled", 38, &[0x0B71], true),
+    ("LoadIdentity", 40, &[], false),
+    ("MatrixMode", 42, &[0x1701], false),
+    ("NormalPointer", 46, &[0x1400, 2147483647, 12], false),
+    ("Orthox", 47, &[-1, -2, -3, -4, -5, -6], false),
+    ("PixelStorei", 48, &[0x0D05, -8], false),
+    ("PopMatrix", 49, &[], false),
+    ("PushMatrix", 50, &[], false),
+    (
+        "ReadPixels",
+        51,
+        &[-1, -2, 3, 4, 0x1908, 0x1401, 1024],
+        true,
+    ),
+    ("Rotatex", 52, &[1, 2, 3, 4], false),
+    ("Scalex", 53, &[1, 2, 3], false),
+    ("TexCoordPointer", 56, &[2, 0x140C, 8, 3], false),
+    ("Translatex", 62, &[1, 2, 3], false),
+    ("VertexPointer", 63, &[3, 0x1402, 0, 4294967294], false),
+    ("Viewport", 64, &[-1, -2, 3, 4], false),
+];
 
 #[test]
-fn each_call_numbered_to_32_is_found_by_its_name_and_its_number(rt: HostRuntime) {
-    let calls = [
-        (
-            Call::ActiveTexture { texture: 0x84C1 },
-            "ActiveTexture",
-            [0x84C1].as_slice(),
-        ),
-        (Call::Clear { mask: 16384 }, "Clear", [16384].as_slice()),
-        (
-            Call::ClearColorx {
-                red: 65536,
-                green: -1,
-                blue: 2147483647,
-                alpha: -2147483648,
-            },
-            "ClearColorx",
-            [65536, -1, 2147483647, -2147483648].as_slice(),
-        ),
-        (
-            Call::ClientActiveTexture { texture: 0x84C0 },
-            "ClientActiveTexture",
-            [0x84C0].as_slice(),
-        ),
-        (
-            Call::ColorPointer {
-                size: 4,
-                kind: 0x1401,
-                stride: -1,
-                pointer: 4294967295,
-            },
-            "ColorPointer",
-            [4, 0x1401, -1, 4294967295].as_slice(),
-        ),
-        (
-            Call::DisableClientState { array: 0x8076 },
-            "DisableClientState",
-            [0x8076].as_slice(),
-        ),
-        (
-            Call::EnableClientState { array: 0x8078 },
-            "EnableClientState",
-            [0x8078].as_slice(),
-        ),
-        (Call::Finish, "Finish", [].as_slice()),
-        (Call::Flush, "Flush", [].as_slice()),
-        (
-            Call::Frustumx {
-                left: 1,
-                right: 2,
-                bottom: 3,
-                top: 4,
-                near: 5,
-                far: 6,
-            },
-            "Frustumx",
-            [1, 2, 3, 4, 5, 6].as_slice(),
-        ),
-    ];
-    for (call, name, numbers) in &calls {
-        is_found(&rt, call, name, numbers);
+fn each_call_of_the_table_is_found_by_its_name_and_its_number(rt: HostRuntime) {
+    for (name, id, numbers, answered) in &CALLS {
+        is_found(&rt, name, *id, numbers, *answered);
     }
     call_law();
 }
 
-#[test]
-fn each_call_numbered_from_33_is_found_by_its_name_and_its_number(rt: HostRuntime) {
-    let calls = [
-        (Call::GetError, "GetError", [].as_slice()),
-        (
-            Call::GetFixedv {
-                pname: 0x0B00,
-                params: 16,
-            },
-            "GetFixedv",
-            [0x0B00, 16].as_slice(),
-        ),
-        (
-            Call::GetIntegerv {
-                pname: 0x0BA2,
-                params: 4294967295,
-            },
-            "GetIntegerv",
-            [0x0BA2, 4294967295].as_slice(),
-        ),
-        (
-            Call::GetPointerv {
-                pname: 0x808E,
-                params: 8,
-            },
-            "GetPointerv",
-            [0x808E, 8].as_slice(),
-        ),
-        (
-            Call::IsEnabled { cap: 0x0B71 },
-            "IsEnabled",
-            [0x0B71].as_slice(),
-        ),
-        (Call::LoadIdentity, "LoadIdentity", [].as_slice()),
-        (
-            Call::MatrixMode { mode: 0x1701 },
-            "MatrixMode",
-            [0x1701].as_slice(),
-        ),
-        (
-            Call::NormalPointer {
-                kind: 0x1400,
-                stride: 2147483647,
-                pointer: 12,
-            },
-            "NormalPointer",
-            [0x1400, 2147483647, 12].as_slice(),
-        ),
-        (
-            Call::Orthox {
-                left: -1,
-                right: -2,
-                bottom: -3,
-                top: -4,
-                near: -5,
-                far: -6,
-            },
-            "Orthox",
-            [-1, -2, -3, -4, -5, -6].as_slice(),
-        ),
-        (
-            Call::PixelStorei {
-                pname: 0x0D05,
-                param: -8,
-            },
-            "PixelStorei",
-            [0x0D05, -8].as_slice(),
-        ),
-        (Call::PopMatrix, "PopMatrix", [].as_slice()),
-        (Call::PushMatrix, "PushMatrix", [].as_slice()),
-        (
-            Call::ReadPixels {
-                x: -1,
-                y: -2,
-                width: 3,
-                height: 4,
-                format: 0x1908,
-                kind: 0x1401,
-                pixels: 1024,
-            },
-            "ReadPixels",
-            [-1, -2, 3, 4, 0x1908, 0x1401, 1024].as_slice(),
-        ),
-        (
-            Call::Rotatex {
-                angle: 1,
-                x: 2,
-                y: 3,
-                z: 4,
-            },
-            "Rotatex",
-            [1, 2, 3, 4].as_slice(),
-        ),
-        (
-            Call::Scalex { x: 1, y: 2, z: 3 },
-            "Scalex",
-            [1, 2, 3].as_slice(),
-        ),
-        (
-            Call::TexCoordPointer {
-                size: 2,
-                kind: 0x140C,
-                stride: 8,
-                pointer: 3,
-            },
-            "TexCoordPointer",
-            [2, 0x140C, 8, 3].as_slice(),
-        ),
-        (
-            Call::Translatex { x: 1, y: 2, z: 3 },
-            "Translatex",
-            [1, 2, 3].as_slice(),
-        ),
-        (
-            Call::VertexPointer {
-                size: 3,
-                kind: 0x1402,
-                stride: 0,
-                pointer: 4294967294,
-            },
-            "VertexPointer",
-            [3, 0x1402, 0, 4294967294].as_slice(),
-        ),
-        (
-            Call::Viewport {
-                x: -1,
-                y: -2,
-                width: 3,
-                height: 4,
-            },
-            "Viewport",
-            [-1, -2, 3, 4].as_slice(),
-        ),
-    ];
-    for (call, name, numbers) in &calls {
-        is_found(&rt, call, name, numbers);
+/// The name has this number, and the call that is made of it and the arguments has them.
+fn is_found(rt: &impl Abort, name: &str, id: u16, numbers: &[i64], answered: bool) {
+    assert!(rt; shape_of_name(name).is_some_and(|shape| shape.id == id));
+    assert_eq!(rt; arg_count_of(id), Some(numbers.len()));
+    let Some(call) = call_from(id, numbers) else {
+        panic!(rt; "no call has the number {id}");
+    };
+    assert_eq!(rt; call_name(&call), name);
+    assert_eq!(rt; call_id(&call), id);
+    assert_eq!(rt; is_answering(&call), answered);
+    assert_eq!(rt; arguments_of(&call).as_slice(), numbers);
+    if 0 < arg_count(&call) {
+        assert_eq!(rt; Some(&arg_at(&call, 0)), numbers.first());
     }
 }
 
-/// The call has this name and these arguments, and is found by its number and them.
-fn is_found(rt: &impl Abort, call: &Call, name: &str, numbers: &[i64]) {
-    assert_eq!(rt; call_name(call), name);
-    assert_eq!(rt; arg_count(call), numbers.len());
-    assert_eq!(rt; arg_count_of(call_id(call)), Some(numbers.len()));
-    for (at, number) in numbers.iter().enumerate() {
-        if at < arg_count(call) {
-            assert_eq!(rt; arg_at(call, at), *number);
-        }
-    }
-    assert_eq!(rt; call_from(call_id(call), numbers), Some(*call));
-    let shape = shape_of_name(name);
-    assert!(rt; shape.is_some_and(|shape| shape.id == call_id(call)));
+#[test]
+fn a_call_prints_as_a_script_spells_it(rt: HostRuntime) -> Result<(), Fail> {
+    let call = call_in(48, &[0x0D05, 0xFFFF_FFFF_FFFF_FFF8, 1]).ok_or("none")?;
+    assert_eq!(rt;
+        format!(in rt.alloc(); "{call:?}")?.as_str(),
+        "PixelStorei 3333 -8"
+    );
+    Ok(())
 }
 
 #[test]
@@ -268,10 +127,4 @@ fn names_are_found_as_they_are_spelled(rt: HostRuntime) {
 fn errors_have_their_numbers(rt: HostRuntime) {
     assert_eq!(rt; GlError::InvalidEnum.code(), 1280);
     assert_eq!(rt; GlError::OutOfMemory.code(), 1285);
-}
-
-#[test]
-fn a_call_that_asks_is_answered_and_no_other(rt: HostRuntime) {
-    assert!(rt; is_answering(&Call::GetError));
-    assert!(rt; !is_answering(&Call::Finish));
 }
