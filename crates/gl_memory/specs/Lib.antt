@@ -4,3 +4,4 @@ pub mod Piece
 pub mod Slots
 pub mod Number
 pub mod Laws
+pub mod Room

@@ -129,3 +129,18 @@ fn keeps(rt: &impl Abort, pieces: &mut Pieces, start: u64, len: u64) {
     pieces.push(Piece { start, len });
     assert_eq!(rt; pieces.at(last), Piece { start, len });
 }
+
+#[test]
+fn lists_of_replies_hold_what_was_pushed(rt: HostRuntime) -> Result<(), Fail> {
+    let mut numbers = Numbers::new(rt.alloc(), 2)?;
+    numbers.push(i64::MIN);
+    numbers.push(7);
+    assert_eq!(rt; numbers.len(), 2);
+    assert_eq!(rt; numbers.at(0), i64::MIN);
+    assert_eq!(rt; numbers.at(1), 7);
+    let mut octets = Octets::new(rt.alloc(), 1)?;
+    octets.push(255);
+    assert_eq!(rt; octets.len(), 1);
+    assert_eq!(rt; octets.at(0), 255);
+    Ok(())
+}
