@@ -1,0 +1,105 @@
+-- What a call does to tracked state, what it reads and for what it asks, by the kinds of calls.
+use Rattle.std.proofs.Common.{◌≡◌, ℕ, ℤ, Bool, true, false, List, Option, Some, None, refl, sym, ap, ◌∙◌}
+use Rattle.std.proofs.lemmas.Bool.{true≢false}
+use Rattle.std.proofs.lemmas.List.Elements.{All-nil}
+use Rattle.std.proofs.lemmas.Option.{none-some}
+use Rattle.gl_words.specs.Call.{is_answering}
+use Rattle.gl_words.specs.declared.call.Call.{Call}
+use Rattle.gl_words.specs.declared.call.Call.TheVariants.{ActiveTexture, Clear, ClientActiveTexture, ColorPointer, DisableClientState, EnableClientState, GetIntegerv, GetPointerv, IsEnabled, MatrixMode, NormalPointer, PixelStorei, PopMatrix, PushMatrix, TexCoordPointer, VertexPointer}
+use Rattle.gl_words.specs.declared.error.GlError.{GlError}
+use Rattle.gl_memory.specs.Piece.{LiesIn}
+use Rattle.gl_memory.specs.Segment.{Segment, byte_at}
+use Rattle.gl_memory.specs.declared.piece.Piece.{Piece}
+use Rattle.gl_tracked.specs.declared.tracked.Tracked.{Tracked}
+use Rattle.gl_tracked.specs.Fault.{fault_of}
+use Rattle.gl_tracked.specs.Reads.{AgreesOn}
+use Rattle.gl_tracked.specs.Step.{set_by, unless_fault, tracked_after, reads_of, number_asked}
+
+set_by-memory : (tracked : Tracked) (call : Call) (m n : List Segment) → set_by tracked call m ≡ set_by tracked call n
+unfolding set_by
+set_by-memory tracked (Clear mask) m n = refl
+set_by-memory tracked _ m n = refl
+
+-- no call's step depends on memory yet
+pub tracked_after-memory : (tracked : Tracked) (call : Call) (m n : List Segment) → tracked_after tracked call m ≡ tracked_after tracked call n
+unfolding tracked_after
+tracked_after-memory tracked call m n = ap (unless_fault (fault_of tracked call) tracked) (set_by-memory tracked call m n)
+
+set_by-asked : (tracked : Tracked) (call : Call) (memory : List Segment) (number : ℤ) → number_asked tracked call ≡ Some number → set_by tracked call memory ≡ tracked
+unfolding number_asked set_by
+set_by-asked tracked (GetIntegerv pname params) memory number asked = refl
+set_by-asked tracked (GetPointerv pname params) memory number asked = refl
+set_by-asked tracked (IsEnabled cap) memory number asked = refl
+set_by-asked tracked _ memory number asked = absurd (none-some number asked)
+
+-- whatever the error, tracked state that isn't set stays
+pub unless_fault-same : (fault : Option GlError) (tracked : Tracked) → unless_fault fault tracked tracked ≡ tracked
+unless_fault-same None tracked = refl
+unless_fault-same (Some error) tracked = refl
+
+-- a call that asks for a number of tracked state leaves it
+pub tracked_after-asked : (tracked : Tracked) (call : Call) (memory : List Segment) (number : ℤ) → number_asked tracked call ≡ Some number → tracked_after tracked call memory ≡ tracked
+unfolding tracked_after
+tracked_after-asked tracked call memory number asked =
+    ap (unless_fault (fault_of tracked call) tracked) (set_by-asked tracked call memory number asked) ∙ unless_fault-same (fault_of tracked call) tracked
+
+-- a call that isn't answered asks for no number of tracked state
+pub number_asked-unanswered : (tracked : Tracked) (call : Call) → is_answering call ≡ false → number_asked tracked call ≡ None
+unfolding is_answering number_asked
+number_asked-unanswered tracked (GetIntegerv pname params) h = absurd (true≢false h)
+number_asked-unanswered tracked (GetPointerv pname params) h = absurd (true≢false h)
+number_asked-unanswered tracked (IsEnabled cap) h = absurd (true≢false h)
+number_asked-unanswered tracked _ h = refl
+
+-- whether a call may change tracked state; own
+abbrev pub may_set : Call → Bool
+may_set (ActiveTexture texture) = true
+may_set (ClientActiveTexture texture) = true
+may_set (ColorPointer size kind stride pointer) = true
+may_set (DisableClientState array) = true
+may_set (EnableClientState array) = true
+may_set (MatrixMode mode) = true
+may_set (NormalPointer kind stride pointer) = true
+may_set (PixelStorei pname param) = true
+may_set PopMatrix = true
+may_set PushMatrix = true
+may_set (TexCoordPointer size kind stride pointer) = true
+may_set (VertexPointer size kind stride pointer) = true
+may_set _ = false
+
+set_by-others : (tracked : Tracked) (call : Call) (memory : List Segment) → may_set call ≡ false → set_by tracked call memory ≡ tracked
+unfolding set_by
+set_by-others tracked (ActiveTexture texture) memory h = absurd (cc)
+set_by-others tracked (ClientActiveTexture texture) memory h = absurd (cc)
+set_by-others tracked (ColorPointer size kind stride pointer) memory h = absurd (cc)
+set_by-others tracked (DisableClientState array) memory h = absurd (cc)
+set_by-others tracked (EnableClientState array) memory h = absurd (cc)
+set_by-others tracked (MatrixMode mode) memory h = absurd (cc)
+set_by-others tracked (NormalPointer kind stride pointer) memory h = absurd (cc)
+set_by-others tracked (PixelStorei pname param) memory h = absurd (cc)
+set_by-others tracked PopMatrix memory h = absurd (cc)
+set_by-others tracked PushMatrix memory h = absurd (cc)
+set_by-others tracked (TexCoordPointer size kind stride pointer) memory h = absurd (cc)
+set_by-others tracked (VertexPointer size kind stride pointer) memory h = absurd (cc)
+set_by-others tracked _ memory h = refl
+
+-- every other call leaves tracked state
+pub tracked_after-others : (tracked : Tracked) (call : Call) (memory : List Segment) → may_set call ≡ false → tracked ≡ tracked_after tracked call memory
+unfolding tracked_after
+tracked_after-others tracked call memory h =
+    sym (ap (unless_fault (fault_of tracked call) tracked) (set_by-others tracked call memory h) ∙ unless_fault-same (fault_of tracked call) tracked)
+
+-- a call with an error leaves tracked state; section 2.5
+pub tracked_after-fault : (tracked : Tracked) (call : Call) (memory : List Segment) (error : GlError) → fault_of tracked call ≡ Some error → tracked_after tracked call memory ≡ tracked
+unfolding tracked_after
+tracked_after-fault tracked call memory error h = ap (λ (fault : Option GlError). unless_fault fault tracked (set_by tracked call memory)) h
+
+-- a call without an error sets what the table says
+pub tracked_after-no_fault : (tracked : Tracked) (call : Call) (memory : List Segment) → fault_of tracked call ≡ None → tracked_after tracked call memory ≡ set_by tracked call memory
+unfolding tracked_after
+tracked_after-no_fault tracked call memory h = ap (λ (fault : Option GlError). unless_fault fault tracked (set_by tracked call memory)) h
+
+-- no call reads memory yet, so to each of them any two memories are the same
+pub AgreesOn-none : (tracked : Tracked) (call : Call) (memory m n : List Segment) → AgreesOn m n (reads_of tracked call memory)
+unfolding reads_of
+AgreesOn-none tracked call memory m n = All-nil (λ (range : Piece). (place : ℕ) → LiesIn place range → byte_at m place ≡ byte_at n place)

@@ -1,0 +1,97 @@
+-- Which error a call makes, as tracked state and the call show it; sections 2.5 and those of the calls.
+use Rattle.std.specs.Prelude.{ℕ, ◌==◌, nat_lt, ℤ, pos, int_le, int_lt, Bool, true, false, ◌&&◌, ◌||◌, bit_and, if◌then◌else◌, List, [], ◌∷◌, Option, Some, None, is_some}
+use Rattle.std.specs.List.{list_any}
+use Rattle.std.specs.Ordering.{int_eq}
+use Rattle.gl_words.specs.declared.call.Call.{Call}
+use Rattle.gl_words.specs.declared.call.Call.TheVariants.{ActiveTexture, Clear, ClearColorx, ClientActiveTexture, ColorPointer, DisableClientState, EnableClientState, Finish, Flush, Frustumx, GetError, GetFixedv, GetIntegerv, GetPointerv, IsEnabled, LoadIdentity, MatrixMode, NormalPointer, Orthox, PixelStorei, PopMatrix, PushMatrix, ReadPixels, Rotatex, Scalex, TexCoordPointer, Translatex, VertexPointer, Viewport}
+use Rattle.gl_words.specs.declared.error.GlError.{GlError}
+use Rattle.gl_words.specs.declared.error.GlError.TheVariants.{InvalidEnum, InvalidValue, StackOverflow, StackUnderflow}
+use Rattle.gl_tracked.specs.declared.tracked.Tracked.{Tracked}
+use Rattle.gl_tracked.specs.Gets.{integer_asked, pointer_asked, other_integers, fixed_names}
+use Rattle.gl_tracked.specs.Stack.{is_matrix_mode, current_depth, current_most}
+use Rattle.gl_tracked.specs.Tracked.{alignments, alignment_names, array_sizes, arrays, capabilities, colour_types, units, vertex_types}
+
+-- a mask has no bits but those of depth, stencil and colour; section 4.2.3
+unfoldable pub is_known_mask : ℕ → Bool
+is_known_mask mask = bit_and mask 0x4500 == mask
+
+-- two numbers are not the same; own
+unfoldable pub differ : ℤ → ℤ → Bool
+differ a b = int_lt a b || int_lt b a
+
+-- no two sides of a box that face each other are in one plane; section 2.10.2
+unfoldable pub is_box : ℤ → ℤ → ℤ → ℤ → ℤ → ℤ → Bool
+is_box left right bottom top near far = (differ left right && differ bottom top) && differ near far
+
+-- both planes of a frustum are before the eye, and its sides are those of a box; section 2.10.2
+unfoldable pub is_frustum : ℤ → ℤ → ℤ → ℤ → ℤ → ℤ → Bool
+is_frustum left right bottom top near far = (int_lt (pos 0) near && int_lt (pos 0) far) && is_box left right bottom top near far
+
+-- neither side of a viewport is below zero; section 2.10.1
+unfoldable pub is_extent : ℤ → ℤ → Bool
+is_extent width height = int_le (pos 0) width && int_le (pos 0) height
+
+-- a number is one of a list; own
+unfoldable pub is_among : List ℕ → ℕ → Bool
+is_among numbers number = list_any (λ known. known == number) numbers
+
+-- a signed number is one of a list; own
+unfoldable pub size_is_among : List ℤ → ℤ → Bool
+size_is_among numbers number = list_any (λ known. int_eq known number) numbers
+
+-- a stride isn't below zero; section 2.8
+unfoldable pub is_stride : ℤ → Bool
+is_stride stride = int_le (pos 0) stride
+
+-- the error of the first test that isn't passed, or none; section 2.5
+unfoldable pub first_failed : List (Bool × GlError) → Option GlError
+first_failed [] = None
+first_failed ((passes, error) ∷ tests) = if passes then first_failed tests else Some error
+
+-- the first error of a pointer call, by whether its size and its type are known, and by its stride; section 2.8
+unfoldable pub pointer_fault : Bool → Bool → ℤ → Option GlError
+pointer_fault knows_size knows_type stride =
+    first_failed ((knows_size, InvalidValue) ∷ (knows_type, InvalidEnum) ∷ (is_stride stride, InvalidValue) ∷ [])
+
+-- sides of a rectangle of pixels that can be read: 0 to 512; section 4.3.1, the most own
+unfoldable pub is_readable : ℤ → ℤ → Bool
+is_readable width height = is_extent width height && (int_le width (pos 512) && int_le height (pos 512))
+
+-- the first error test of a call that fails, or none; sections 2.7, 2.8, 2.10.1, 2.10.2, 3.6.1, 4.2.3, 4.3.1 and 6.1
+unfoldable pub fault_of : Tracked → Call → Option GlError
+fault_of tracked (ActiveTexture texture) = if is_among units texture then None else Some InvalidEnum
+fault_of tracked (Clear mask) = if is_known_mask mask then None else Some InvalidValue
+fault_of tracked (ClearColorx red green blue alpha) = None
+fault_of tracked (ClientActiveTexture texture) = if is_among units texture then None else Some InvalidEnum
+fault_of tracked (ColorPointer size kind stride pointer) = pointer_fault (size_is_among (pos 4 ∷ []) size) (is_among colour_types kind) stride
+fault_of tracked (DisableClientState array) = if is_among arrays array then None else Some InvalidEnum
+fault_of tracked (EnableClientState array) = if is_among arrays array then None else Some InvalidEnum
+fault_of tracked Finish = None
+fault_of tracked Flush = None
+fault_of tracked (Frustumx left right bottom top near far) = if is_frustum left right bottom top near far then None else Some InvalidValue
+fault_of tracked GetError = None
+fault_of tracked (GetFixedv pname params) = if is_among fixed_names pname then None else Some InvalidEnum
+fault_of tracked (GetIntegerv pname params) = if is_some (integer_asked tracked pname) || is_among other_integers pname then None else Some InvalidEnum
+fault_of tracked (GetPointerv pname params) = if is_some (pointer_asked tracked pname) then None else Some InvalidEnum
+fault_of tracked (IsEnabled cap) = if is_among capabilities cap || is_among arrays cap then None else Some InvalidEnum
+fault_of tracked LoadIdentity = None
+fault_of tracked (MatrixMode mode) = if is_matrix_mode mode then None else Some InvalidEnum
+fault_of tracked (NormalPointer kind stride pointer) = pointer_fault true (is_among vertex_types kind) stride
+fault_of tracked (Orthox left right bottom top near far) = if is_box left right bottom top near far then None else Some InvalidValue
+fault_of tracked (PixelStorei pname param) = first_failed ((is_among alignment_names pname, InvalidEnum) ∷ (size_is_among alignments param, InvalidValue) ∷ [])
+fault_of tracked PopMatrix = if nat_lt 1 (current_depth tracked) then None else Some StackUnderflow
+fault_of tracked PushMatrix = if nat_lt (current_depth tracked) (current_most tracked) then None else Some StackOverflow
+fault_of tracked (ReadPixels x y width height format kind pixels) =
+    first_failed ((format == 0x1908, InvalidEnum) ∷ (kind == 0x1401, InvalidEnum) ∷ (is_readable width height, InvalidValue) ∷ [])
+fault_of tracked (Rotatex angle x y z) = None
+fault_of tracked (Scalex x y z) = None
+fault_of tracked (TexCoordPointer size kind stride pointer) = pointer_fault (size_is_among array_sizes size) (is_among vertex_types kind) stride
+fault_of tracked (Translatex x y z) = None
+fault_of tracked (VertexPointer size kind stride pointer) = pointer_fault (size_is_among array_sizes size) (is_among vertex_types kind) stride
+fault_of tracked (Viewport x y width height) = if is_extent width height then None else Some InvalidValue
+
+-- a call has the sides of a box; own
+abbrev pub has_sides : Call → Bool
+has_sides (Frustumx left right bottom top near far) = true
+has_sides (Orthox left right bottom top near far) = true
+has_sides _ = false

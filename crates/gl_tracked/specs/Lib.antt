@@ -1,0 +1,11 @@
+pub mod Tracked
+pub mod Stack
+pub mod Arrays
+pub mod Gets
+pub mod Fault
+pub mod Reads
+pub mod Element
+pub mod Step
+pub use Rattle.gl_words.specs.Call
+pub use Rattle.gl_memory.specs.Segment
+pub use Rattle.gl_memory.specs.Piece

@@ -1,0 +1,359 @@
+//! The first error of a call. A test of its arguments is a function, named as the definition.
+
+ghost use Rattle.std.specs.Prelude.{◌≡◌, ◌==◌, pos, true, if◌then◌else◌, ◌∷◌, [], Some, None};
+ghost use Rattle.gl_words.specs.Call.{is_answering};
+ghost use Rattle.gl_tracked.specs.declared.tracked.Tracked.{Tracked};
+ghost use Rattle.gl_tracked.specs.Arrays.{gives_pointer};
+ghost use Rattle.gl_tracked.specs.Fault.{differ, fault_of, first_failed, has_sides, is_among, is_box, is_extent, is_frustum, is_known_mask, is_readable, pointer_fault, size_is_among};
+ghost use Rattle.gl_tracked.specs.Gets.{fixed_names, other_integers};
+ghost use Rattle.gl_tracked.specs.Stack.{is_matrix_mode};
+ghost use Rattle.gl_tracked.specs.Tracked.{alignments, alignment_names, array_sizes, arrays, capabilities, colour_types, units, vertex_types};
+
+use crate::tracked::Tracked;
+use gl_words::{Call, GlError};
+
+impl Tracked {
+    /// The first error of a call, as it and the tracked state show it; the sections are those of the calls.
+    #[tactic(auto, unfolding(crate::specs::Fault::fault_of, gl_words::specs::Call::is_answering))]
+    pub fn fault(&self, call: &Call) -> Option<GlError>
+        ensures { result ≡ fault_of self.now call.now }
+    {
+        match call {
+            Call::ActiveTexture { texture } => enum_unless(is_unit(*texture)),
+            Call::Clear { mask } => value_unless(is_known_mask(*mask)),
+            Call::ClientActiveTexture { texture } => enum_unless(is_unit(*texture)),
+            Call::ColorPointer { .. }
+            | Call::NormalPointer { .. }
+            | Call::TexCoordPointer { .. }
+            | Call::VertexPointer { .. } => array_fault(call),
+            Call::DisableClientState { array } => enum_unless(is_array_name(*array)),
+            Call::EnableClientState { array } => enum_unless(is_array_name(*array)),
+            Call::Frustumx { .. } | Call::Orthox { .. } => sides_fault(call),
+            Call::GetFixedv { .. }
+            | Call::GetIntegerv { .. }
+            | Call::GetPointerv { .. }
+            | Call::IsEnabled { .. }
+            | Call::ReadPixels { .. } => self.get_fault(call),
+            Call::MatrixMode { mode } => enum_unless(is_matrix_mode(*mode)),
+            Call::PixelStorei { pname, param } => alignment_fault(*pname, *param),
+            Call::PopMatrix => error_unless(self.depth() > 1, GlError::StackUnderflow),
+            Call::PushMatrix => error_unless(
+                self.depth() < self.most_depth(),
+                GlError::StackOverflow,
+            ),
+            Call::Viewport { width, height, .. } => value_unless(is_extent(*width, *height)),
+            _ => None,
+        }
+    }
+
+    /// The first error of a call that is answered.
+    #[tactic(auto, unfolding(crate::specs::Fault::fault_of, gl_words::specs::Call::is_answering))]
+    fn get_fault(&self, call: &Call) -> Option<GlError>
+        requires { is_answering call.now ≡ true }
+        ensures { result ≡ fault_of self.now call.now }
+    {
+        match call {
+            Call::GetFixedv { pname, .. } => enum_unless(is_fixed_name(*pname)),
+            Call::GetIntegerv { pname, .. } => {
+                let known = self.integer(*pname).is_some() || is_other_integer(*pname);
+                enum_unless(known)
+            }
+            Call::GetPointerv { pname, .. } => enum_unless(self.pointer(*pname).is_some()),
+            Call::IsEnabled { cap } => enum_unless(is_capability(*cap) || is_array_name(*cap)),
+            Call::ReadPixels {
+                width,
+                height,
+                format,
+                kind,
+                ..
+            } => pixels_fault(*width, *height, *format, *kind),
+            _ => None,
+        }
+    }
+}
+
+/// An error, where a test isn't passed.
+fn error_unless(passes: bool, error: GlError) -> Option<GlError>
+    ensures { result ≡ (if passes then None else Some error) }
+{
+    if passes { None } else { Some(error) }
+}
+
+/// INVALID_ENUM, where a test isn't passed.
+fn enum_unless(passes: bool) -> Option<GlError>
+    ensures { result ≡ (if passes then None else Some GlError.InvalidEnum) }
+{
+    error_unless(passes, GlError::InvalidEnum)
+}
+
+/// INVALID_VALUE, where a test isn't passed.
+fn value_unless(passes: bool) -> Option<GlError>
+    ensures { result ≡ (if passes then None else Some GlError.InvalidValue) }
+{
+    error_unless(passes, GlError::InvalidValue)
+}
+
+/// The first error of a call that says where an array lies.
+#[tactic(auto, unfolding(crate::specs::Fault::fault_of))]
+fn array_fault(call: &Call) -> Option<GlError>
+    requires { gives_pointer call.now ≡ true }
+    ensures { (tracked : Tracked) → result ≡ fault_of tracked call.now }
+{
+    match call {
+        Call::ColorPointer {
+            size,
+            kind,
+            stride,
+            ..
+        } => pointer_fault(is_colour_size(*size), is_colour_type(*kind), *stride),
+        Call::NormalPointer { kind, stride, .. } => pointer_fault(
+            true,
+            is_vertex_type(*kind),
+            *stride,
+        ),
+        Call::TexCoordPointer {
+            size,
+            kind,
+            stride,
+            ..
+        } => pointer_fault(is_array_size(*size), is_vertex_type(*kind), *stride),
+        Call::VertexPointer {
+            size,
+            kind,
+            stride,
+            ..
+        } => pointer_fault(is_array_size(*size), is_vertex_type(*kind), *stride),
+        _ => None,
+    }
+}
+
+/// The first error of a call with the sides of a box.
+#[tactic(auto, unfolding(crate::specs::Fault::fault_of))]
+fn sides_fault(call: &Call) -> Option<GlError>
+    requires { has_sides call.now ≡ true }
+    ensures { (tracked : Tracked) → result ≡ fault_of tracked call.now }
+{
+    match call {
+        Call::Frustumx {
+            left,
+            right,
+            bottom,
+            top,
+            near,
+            far,
+        } => value_unless(is_frustum(*left, *right, *bottom, *top, *near, *far)),
+        Call::Orthox {
+            left,
+            right,
+            bottom,
+            top,
+            near,
+            far,
+        } => value_unless(is_box(*left, *right, *bottom, *top, *near, *far)),
+        _ => None,
+    }
+}
+
+/// The first error of a call that says where an array lies: by its size, its type, and its stride (section 2.8).
+#[tactic(auto, unfolding(crate::specs::Fault::pointer_fault, crate::specs::Fault::first_failed, crate::specs::Fault::is_stride))]
+fn pointer_fault(knows_size: bool, knows_type: bool, stride: i32) -> Option<GlError>
+    ensures { result ≡ pointer_fault knows_size knows_type stride }
+{
+    if !knows_size {
+        Some(GlError::InvalidValue)
+    } else if !knows_type {
+        Some(GlError::InvalidEnum)
+    } else {
+        value_unless(0 <= stride)
+    }
+}
+
+/// The first error of PixelStorei (sections 3.6.1 and 4.3.1).
+#[tactic(auto, unfolding(crate::specs::Fault::first_failed))]
+fn alignment_fault(name: u32, alignment: i32) -> Option<GlError>
+    ensures { result ≡ first_failed (
+        (is_among alignment_names name, GlError.InvalidEnum) ∷
+        (size_is_among alignments alignment, GlError.InvalidValue) ∷ []) }
+{
+    if is_alignment_name(name) {
+        value_unless(is_alignment(alignment))
+    } else {
+        Some(GlError::InvalidEnum)
+    }
+}
+
+/// The first error of ReadPixels (section 4.3.1).
+#[tactic(auto, unfolding(crate::specs::Fault::first_failed))]
+fn pixels_fault(width: i32, height: i32, format: u32, kind: u32) -> Option<GlError>
+    ensures { result ≡ first_failed (
+        (format == 0x1908, GlError.InvalidEnum) ∷
+        (kind == 0x1401, GlError.InvalidEnum) ∷
+        (is_readable width height, GlError.InvalidValue) ∷ []) }
+{
+    if format != 0x1908 || kind != 0x1401 {
+        Some(GlError::InvalidEnum)
+    } else {
+        value_unless(is_readable(width, height))
+    }
+}
+
+/// Whether a number is TEXTURE0 or TEXTURE1.
+#[tactic(auto, unfolding(crate::specs::Fault::is_among))]
+fn is_unit(unit: u32) -> bool
+    ensures { result ≡ is_among units unit }
+{
+    matches!(unit, 0x84C0 | 0x84C1)
+}
+
+/// Whether a number is VERTEX_ARRAY, NORMAL_ARRAY, COLOR_ARRAY or TEXTURE_COORD_ARRAY (section 2.8).
+#[tactic(auto, unfolding(crate::specs::Fault::is_among))]
+fn is_array_name(array: u32) -> bool
+    ensures { result ≡ is_among arrays array }
+{
+    matches!(array, 0x8074 | 0x8075 | 0x8076 | 0x8078)
+}
+
+/// Whether a number is a capability.
+#[tactic(auto, unfolding(crate::specs::Fault::is_among))]
+fn is_capability(capability: u32) -> bool
+    ensures { result ≡ is_among capabilities capability }
+{
+    matches!(
+        capability,
+        0x0B44 | 0x0B71 | 0x0BC0 | 0x0BD0 | 0x0BE2 | 0x0C11 | 0x0DE1
+    )
+}
+
+/// Whether a number is BYTE, SHORT or FIXED (table 2.4).
+#[tactic(auto, unfolding(crate::specs::Fault::is_among))]
+fn is_vertex_type(kind: u32) -> bool
+    ensures { result ≡ is_among vertex_types kind }
+{
+    matches!(kind, 0x1400 | 0x1402 | 0x140C)
+}
+
+/// Whether a number is UNSIGNED_BYTE or FIXED (table 2.4).
+#[tactic(auto, unfolding(crate::specs::Fault::is_among))]
+fn is_colour_type(kind: u32) -> bool
+    ensures { result ≡ is_among colour_types kind }
+{
+    matches!(kind, 0x1401 | 0x140C)
+}
+
+/// Whether a colour may have so many numbers (table 2.4).
+#[tactic(auto, unfolding(crate::specs::Fault::size_is_among))]
+fn is_colour_size(size: i32) -> bool
+    ensures { result ≡ size_is_among (pos 4 ∷ []) size }
+{
+    size == 4
+}
+
+/// Whether a vertex or a texture coordinate may have so many numbers (table 2.4).
+#[tactic(auto, unfolding(crate::specs::Fault::size_is_among))]
+fn is_array_size(size: i32) -> bool
+    ensures { result ≡ size_is_among array_sizes size }
+{
+    matches!(size, 2..=4)
+}
+
+/// Whether a number is UNPACK_ALIGNMENT or PACK_ALIGNMENT (sections 3.6.1 and 4.3.1).
+#[tactic(auto, unfolding(crate::specs::Fault::is_among))]
+fn is_alignment_name(name: u32) -> bool
+    ensures { result ≡ is_among alignment_names name }
+{
+    matches!(name, 0x0CF5 | 0x0D05)
+}
+
+/// Whether rows may begin at so many bytes (section 3.6.1).
+#[tactic(auto, unfolding(crate::specs::Fault::size_is_among))]
+fn is_alignment(alignment: i32) -> bool
+    ensures { result ≡ size_is_among alignments alignment }
+{
+    matches!(alignment, 1 | 2 | 4 | 8)
+}
+
+/// Whether a number is a name of GetFixedv.
+#[tactic(auto, unfolding(crate::specs::Fault::is_among))]
+fn is_fixed_name(name: u32) -> bool
+    ensures { result ≡ is_among fixed_names name }
+{
+    matches!(name, 0x0B00 | 0x0B73 | 0x0BA6 | 0x0BA7 | 0x0BA8 | 0x0C22)
+}
+
+/// Whether a number is a name of GetIntegerv that isn't one of tracked state.
+#[tactic(auto, unfolding(crate::specs::Fault::is_among))]
+fn is_other_integer(name: u32) -> bool
+    ensures { result ≡ is_among other_integers name }
+{
+    matches!(
+        name,
+        0x0B45
+            | 0x0B46
+            | 0x0B54
+            | 0x0B74
+            | 0x0BA2
+            | 0x0BC1
+            | 0x0BE0
+            | 0x0BE1
+            | 0x0C10
+            | 0x0D33
+            | 0x8069
+            | 0x84E2
+    )
+}
+
+/// Whether a rectangle of pixels with these sides can be read (section 4.3.1, the most own).
+#[tactic(auto, unfolding(crate::specs::Fault::is_readable))]
+fn is_readable(width: i32, height: i32) -> bool
+    ensures { result ≡ is_readable width height }
+{
+    is_extent(width, height) && width <= 512 && height <= 512
+}
+
+/// Whether a mask has no bits but those of depth, stencil and colour (section 4.2.3).
+#[tactic(auto, unfolding(crate::specs::Fault::is_known_mask))]
+fn is_known_mask(mask: u32) -> bool
+    ensures { result ≡ is_known_mask mask }
+{
+    mask & 0x4500 == mask
+}
+
+/// Whether a number is MODELVIEW, PROJECTION or TEXTURE (section 2.10.2).
+#[tactic(auto, unfolding(crate::specs::Stack::is_matrix_mode))]
+fn is_matrix_mode(mode: u32) -> bool
+    ensures { result ≡ is_matrix_mode mode }
+{
+    matches!(mode, 0x1700 | 0x1701 | 0x1702)
+}
+
+/// Whether two numbers are not the same.
+#[tactic(auto, unfolding(crate::specs::Fault::differ))]
+fn differ(a: i32, b: i32) -> bool
+    ensures { result ≡ differ a b }
+{
+    a != b
+}
+
+/// Whether no two sides of a box that face each other are in one plane (section 2.10.2).
+#[tactic(auto, unfolding(crate::specs::Fault::is_box))]
+fn is_box(left: i32, right: i32, bottom: i32, top: i32, near: i32, far: i32) -> bool
+    ensures { result ≡ is_box left right bottom top near far }
+{
+    differ(left, right) && differ(bottom, top) && differ(near, far)
+}
+
+/// Whether both planes of a frustum are before the eye, and its sides are those of a box (section 2.10.2).
+#[tactic(auto, unfolding(crate::specs::Fault::is_frustum))]
+fn is_frustum(left: i32, right: i32, bottom: i32, top: i32, near: i32, far: i32) -> bool
+    ensures { result ≡ is_frustum left right bottom top near far }
+{
+    0 < near && 0 < far && is_box(left, right, bottom, top, near, far)
+}
+
+/// Whether neither side of a viewport is below zero (section 2.10.1).
+#[tactic(auto, unfolding(crate::specs::Fault::is_extent))]
+fn is_extent(width: i32, height: i32) -> bool
+    ensures { result ≡ is_extent width height }
+{
+    0 <= width && 0 <= height
+}
