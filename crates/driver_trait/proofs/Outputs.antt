@@ -8,7 +8,7 @@ use Rattle.gl_memory.specs.ClientMemory.{byte_written, written}
 use Rattle.gl_memory.proofs.Writing.{byte_written-inside, byte_written-before, byte_written-behind, length-written, slice_index-written, is_written, written-past}
 use Rattle.gl_words.specs.declared.call.Call.{Call}
 use Rattle.gl_words.specs.declared.call.Call.TheVariants.{ReadPixels}
-use Rattle.driver_trait.specs.declared.tracked.Tracked.{Tracked}
+use Rattle.gl_tracked.specs.declared.tracked.Tracked.{Tracked}
 use Rattle.driver_trait.specs.Reply.{Replied, Nothing, Numbers, Bytes}
 use Rattle.driver_trait.specs.Output.{bytes_written, memory_after, number_bytes, numbers_place, numbers_written, pitch_of, pixels_written, rows_written}
 

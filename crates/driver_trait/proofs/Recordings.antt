@@ -2,14 +2,14 @@
 use Rattle.std.proofs.Common.{◌≡◌, sym, ap, ◌∙◌, ℤ, List, [], ◌∷◌, ◌++◌, Option, Some, None}
 use Rattle.gl_words.specs.declared.call.Call.{Call}
 use Rattle.gl_memory.specs.Segment.{Segment}
-use Rattle.driver_trait.specs.declared.tracked.Tracked.{Tracked}
+use Rattle.gl_tracked.specs.declared.tracked.Tracked.{Tracked}
 use Rattle.driver_trait.specs.Reply.{Nothing, Numbers}
-use Rattle.driver_trait.specs.Step.{tracked_after, number_asked}
-use Rattle.driver_trait.specs.Recorder.{Recorded, recorded_unless, recorded_after, number_replied, recorder_reply}
+use Rattle.gl_tracked.specs.Step.{tracked_after, number_asked}
+use Rattle.driver_trait.specs.Recorder.{RecorderView, recorded_unless, recorded_after, number_replied, recorder_reply}
 
-module _ (before inside : Recorded) (call : Call) where
+module _ (before inside : RecorderView) (call : Call) where
   asked_before : (asked : Option ℤ) → inside ≡ before → number_asked inside.tracked call ≡ asked → number_asked before.tracked call ≡ asked
-  asked_before asked same is = sym (ap (λ (r : Recorded). number_asked r.tracked call) same) ∙ is
+  asked_before asked same is = sym (ap (λ (r : RecorderView). number_asked r.tracked call) same) ∙ is
 
   reply_by : (asked : Option ℤ) → number_asked before.tracked call ≡ asked → number_replied asked ≡ recorder_reply before call
   unfolding recorder_reply
@@ -35,7 +35,7 @@ module _ (before inside : Recorded) (call : Call) where
       → inside ≡ before → number_asked inside.tracked call ≡ None → tracked ≡ tracked_after inside.tracked call memory → calls ≡ inside.calls ++ call ∷ []
       → record { tracked = tracked; calls = calls } ≡ recorded_after before call memory
   recorded_by tracked calls memory same none stepped grown =
-      let P : Tracked → Recorded = λ t. record { tracked = t; calls = calls } in
-      let Q : List Call → Recorded = λ l. record { tracked = tracked_after inside.tracked call memory; calls = l } in
-      let R : Recorded → Recorded = λ r. record { tracked = tracked_after r.tracked call memory; calls = r.calls ++ call ∷ [] } in
+      let P : Tracked → RecorderView = λ t. record { tracked = t; calls = calls } in
+      let Q : List Call → RecorderView = λ l. record { tracked = tracked_after inside.tracked call memory; calls = l } in
+      let R : RecorderView → RecorderView = λ r. record { tracked = tracked_after r.tracked call memory; calls = r.calls ++ call ∷ [] } in
       ap P stepped ∙ ap Q grown ∙ ap R same ∙ step_by None memory (asked_before None same none)

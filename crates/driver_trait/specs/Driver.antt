@@ -3,9 +3,9 @@ use Rattle.std.specs.Prelude.{◌≡◌, ℤ, ◌↔◌, false, List, [], ◌∷
 use Rattle.gl_words.specs.Call.{IsInRange, is_answering}
 use Rattle.gl_words.specs.declared.call.Call.{Call}
 use Rattle.gl_memory.specs.Segment.{Segment, AreBytes}
-use Rattle.gl_memory.specs.Piece.{Agree}
-use Rattle.driver_trait.specs.declared.tracked.Tracked.{Tracked}
-use Rattle.driver_trait.specs.Step.{tracked_after, reads_of, number_asked}
+use Rattle.gl_tracked.specs.declared.tracked.Tracked.{Tracked}
+use Rattle.gl_tracked.specs.Reads.{AgreesOn}
+use Rattle.gl_tracked.specs.Step.{tracked_after, reads_of, number_asked}
 use Rattle.driver_trait.specs.Reply.{Replied, Nothing, Numbers}
 
 -- a call on a memory may lead from a state to a state, with a reply; own
@@ -16,7 +16,7 @@ module _ {S : Type 0} (tracked : S → Tracked) (steps : Steps S) where
   -- a call does the same on memories that agree where it reads; own
   abbrev pub ReadsAlone : Type 0
   ReadsAlone = (st : S) (call : Call) (m n : List Segment) (st2 : S) (reply : Replied) → IsInRange call → AreBytes m → AreBytes n
-      → Agree m n (reads_of (tracked st) call m) → (steps st call m st2 reply ↔ steps st call n st2 reply)
+      → AgreesOn m n (reads_of (tracked st) call m) → (steps st call m st2 reply ↔ steps st call n st2 reply)
 
   -- a call leaves the tracked part that the table gives; own
   abbrev pub Follows : Type 0

@@ -4,7 +4,7 @@ use Rattle.std.specs.List.{flat_map}
 use Rattle.gl_words.specs.declared.call.Call.{Call}
 use Rattle.gl_words.specs.declared.call.Call.TheVariants.{GetFixedv, GetIntegerv, GetPointerv, ReadPixels}
 use Rattle.gl_memory.specs.ClientMemory.{written}
-use Rattle.driver_trait.specs.declared.tracked.Tracked.{Tracked}
+use Rattle.gl_tracked.specs.declared.tracked.Tracked.{Tracked}
 use Rattle.driver_trait.specs.Reply.{Replied, Nothing, Numbers, Bytes}
 
 -- the low 32 bits of a number, those of a number below zero in two's complement; own

@@ -4,7 +4,7 @@ ghost use Rattle.std.specs.Prelude.{◌≡◌, List, IfOk, OnErr};
 ghost use Rattle.std.specs.Thread.{IsSync};
 ghost use Rattle.gl_words.specs.declared.call.Call.{Call};
 ghost use Rattle.gl_memory.specs.Segment.{Segment};
-ghost use Rattle.driver_trait.specs.declared.tracked.Tracked.{Tracked};
+ghost use Rattle.gl_tracked.specs.declared.tracked.Tracked.{Tracked};
 ghost use Rattle.driver_trait.specs.Reply.{Replied, replied};
 ghost use Rattle.driver_trait.specs.Driver.{IsDriver};
 

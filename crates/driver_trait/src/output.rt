@@ -6,8 +6,8 @@ ghost use Rattle.driver_trait.specs.Output.{bytes_written, low_bits, memory_afte
 ghost use Rattle.driver_trait.specs.Reply.{replied};
 
 use crate::reply::Reply;
-use crate::tracked::Tracked;
 use gl_memory::ClientMemory;
+use gl_tracked::Tracked;
 use gl_words::Call;
 
 /// Writes what a call replied where the call wants it: numbers as their low 32 bits, four bytes each, the lowest first

@@ -4,13 +4,13 @@ ghost use Rattle.std.specs.Prelude.{◌≡◌, [], IfOk, OnErr};
 ghost use Rattle.std.specs.Thread.{IsSync};
 ghost use Rattle.driver_trait.specs.Recorder.{RecorderSteps, recorded_after, recorder_reply};
 ghost use Rattle.driver_trait.specs.Reply.{replied};
-ghost use Rattle.driver_trait.specs.Tracked.{first_tracked};
+ghost use Rattle.gl_tracked.specs.Tracked.{first_tracked};
 ghost use Rattle.driver_trait.specs.Recording.{recorder_is_driver};
 
 use crate::driver::{Driver, Machine};
 use crate::reply::Reply;
-use crate::tracked::Tracked;
 use gl_memory::Memory;
+use gl_tracked::Tracked;
 use gl_words::Call;
 use std::alloc::{AllocError as NoMemory, Global};
 use std::marker::Model;
@@ -24,9 +24,9 @@ pub struct Recorder {
 }
 
 impl Model for Recorder {
-    ghost use Rattle.driver_trait.specs.Recorder.{Recorded};
+    ghost use Rattle.driver_trait.specs.Recorder.{RecorderView};
 
-    ghost Value = { Recorded };
+    ghost Value = { RecorderView };
 
     ghost view = { λ r. record { tracked = r.tracked; calls = r.calls.items } };
 }
@@ -69,7 +69,8 @@ impl Driver for Recorder {
             Some(number) => Ok(Reply::One(number)),
             None => {
                 self.calls.push(*call)?;
-                self.tracked.note(call, memory);
+                let fault = self.tracked.fault(call);
+                self.tracked.note(call, memory, fault);
                 Ok(Reply::Nothing)
             }
         }

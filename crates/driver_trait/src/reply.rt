@@ -1,7 +1,6 @@
 //! What a call answers.
 
-use crate::numbers::Numbers;
-use crate::octets::Octets;
+use gl_memory::{Numbers, Octets};
 
 /// What a call answers: nothing, one number from -2^63 to 2^63 - 1, a list of them, or bytes; own.
 #[derive(Drop)]
