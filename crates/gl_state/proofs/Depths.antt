@@ -7,14 +7,14 @@ use Rattle.gl_words.specs.declared.call.Call.TheVariants.{ColorPointer, DisableC
 use Rattle.gl_memory.specs.Segment.{Segment}
 use Rattle.fixed_transform.specs.declared.matrix.Matrix.{Matrix}
 use Rattle.fixed_transform.specs.Stack.{top_of, below_top}
-use Rattle.driver_trait.specs.declared.tracked.ArrayState.{ArrayState}
-use Rattle.driver_trait.specs.declared.tracked.Tracked.{Tracked}
-use Rattle.driver_trait.specs.Arrays.{with_array, with_enabled, with_pointer}
-use Rattle.driver_trait.specs.Fault.{fault_of}
-use Rattle.driver_trait.specs.Stack.{current_stack, current_depth, current_most, with_depth}
-use Rattle.driver_trait.specs.Step.{set_by, with_alignment}
-use Rattle.driver_trait.specs.Tracked.{most_depths, AreDepths, IsSound}
-use Rattle.driver_trait.proofs.Stacks.{pop_has_two, push_has_room}
+use Rattle.gl_tracked.specs.declared.tracked.ArrayState.{ArrayState}
+use Rattle.gl_tracked.specs.declared.tracked.Tracked.{Tracked}
+use Rattle.gl_tracked.specs.Arrays.{with_array, with_enabled, with_pointer}
+use Rattle.gl_tracked.specs.Fault.{fault_of}
+use Rattle.gl_tracked.specs.Stack.{current_stack, current_depth, current_most, with_depth}
+use Rattle.gl_tracked.specs.Step.{set_by, with_alignment}
+use Rattle.gl_tracked.specs.Tracked.{most_depths, AreDepths, IsSound}
+use Rattle.gl_tracked.proofs.Stacks.{pop_has_two, push_has_room}
 use Rattle.gl_state.specs.Stacks.{StacksView, current_of, most_of, depths_of}
 use Rattle.gl_state.specs.Step.{with_change, stacks_set_by}
 
@@ -134,7 +134,7 @@ module _ (tracked : Tracked) (s : StacksView) (sound : IsSound tracked) (deep : 
   at_depth : (change : List Matrix → List Matrix) (depth : ℕ) → depth ≡ length (change (current_of s tracked.matrix_mode tracked.active)) → (with_depth tracked depth).depths ≡ depths_of (with_change change tracked s)
   at_depth change depth same = ap (λ (d : ℕ). (with_depth tracked d).depths) same ∙ sym (depths_of-with_change tracked s deep change)
 
-  pub depths-set_by : (call : Call) (memory : List Segment) → (set_by tracked call memory).depths ≡ depths_of (stacks_set_by tracked s call)
+  pub depths-set_by : (call : Call) (memory : List Segment) → (set_by tracked call memory).depths ≡ depths_of (stacks_set_by tracked s call memory)
   unfolding set_by stacks_set_by
   depths-set_by (ColorPointer size kind stride pointer) memory = with_pointer-depths tracked 0x8076 size kind stride pointer ∙ deep
   depths-set_by (DisableClientState array) memory = with_enabled-depths tracked array false ∙ deep

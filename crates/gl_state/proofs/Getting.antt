@@ -3,11 +3,12 @@ use Rattle.std.proofs.Common.{◌≡◌, ℕ, ℤ, List, Option, Some, None, ref
 use Rattle.std.specs.Option.{option_or}
 use Rattle.gl_words.specs.declared.call.Call.{Call}
 use Rattle.gl_words.specs.declared.call.Call.TheVariants.{GetIntegerv, GetPointerv, IsEnabled}
-use Rattle.driver_trait.specs.Step.{number_asked}
-use Rattle.driver_trait.specs.Gets.{integer_asked}
+use Rattle.gl_tracked.specs.Step.{number_asked}
+use Rattle.gl_tracked.specs.Gets.{integer_asked}
+use Rattle.gl_state.specs.Event.{EventReplied}
 use Rattle.gl_state.specs.Gets.{alone, capability_rows, found_beside, integers_asked, limit_rows, rectangle_rows, setting_rows, truth_asked}
 use Rattle.gl_state.specs.Private.{PrivateView}
-use Rattle.gl_state.specs.Step.{numbers_replied, reply_by}
+use Rattle.gl_state.specs.Step.{numbers_replied, private_reply}
 
 -- of three numbers the first that there is, else a list: whether the choice is made among numbers or among lists
 alone-first : (a b c : Option ℤ) (others : Option (List ℤ)) → option_or (alone (option_or a (option_or b c))) others ≡ option_or (alone a) (option_or (alone b) (option_or (alone c) others))
@@ -15,10 +16,10 @@ alone-first (Some a) b c others = refl
 alone-first None (Some b) c others = refl
 alone-first None None c others = refl
 
-module _ (p : PrivateView) (call : Call) where
+module _ (p : PrivateView) (call : Call) (event : EventReplied) where
   integers_of : (pname params : ℕ)
       → numbers_replied (option_or (alone (option_or (number_asked p.tracked (GetIntegerv pname params)) (option_or (found_beside (setting_rows p) pname) (found_beside limit_rows pname)))) (found_beside (rectangle_rows p) pname))
-      ≡ reply_by None p (GetIntegerv pname params)
+      ≡ private_reply None p (GetIntegerv pname params) event
   unfolding number_asked integers_asked
   integers_of pname params =
       ap numbers_replied (alone-first (integer_asked p.tracked pname) (found_beside (setting_rows p) pname) (found_beside limit_rows pname) (found_beside (rectangle_rows p) pname))
@@ -26,22 +27,22 @@ module _ (p : PrivateView) (call : Call) where
   -- GetIntegerv replies a number, of tracked state, of the settings or a limit, else a rectangle
   pub integers_replied : (pname params : ℕ) → call ≡ GetIntegerv pname params
       → numbers_replied (option_or (alone (option_or (number_asked p.tracked call) (option_or (found_beside (setting_rows p) pname) (found_beside limit_rows pname)))) (found_beside (rectangle_rows p) pname))
-      ≡ reply_by None p call
+      ≡ private_reply None p call event
   integers_replied pname params is = rw is (integers_of pname params)
 
-  pointer_of : (pname params : ℕ) → numbers_replied (alone (number_asked p.tracked (GetPointerv pname params))) ≡ reply_by None p (GetPointerv pname params)
+  pointer_of : (pname params : ℕ) → numbers_replied (alone (number_asked p.tracked (GetPointerv pname params))) ≡ private_reply None p (GetPointerv pname params) event
   unfolding number_asked
   pointer_of pname params = refl
 
   -- GetPointerv replies a number of tracked state
-  pub pointer_replied : (pname params : ℕ) → call ≡ GetPointerv pname params → numbers_replied (alone (number_asked p.tracked call)) ≡ reply_by None p call
+  pub pointer_replied : (pname params : ℕ) → call ≡ GetPointerv pname params → numbers_replied (alone (number_asked p.tracked call)) ≡ private_reply None p call event
   pointer_replied pname params is = rw is (pointer_of pname params)
 
-  truth_of : (cap : ℕ) → numbers_replied (alone (option_or (number_asked p.tracked (IsEnabled cap)) (found_beside (capability_rows p) cap))) ≡ reply_by None p (IsEnabled cap)
+  truth_of : (cap : ℕ) → numbers_replied (alone (option_or (number_asked p.tracked (IsEnabled cap)) (found_beside (capability_rows p) cap))) ≡ private_reply None p (IsEnabled cap) event
   unfolding number_asked truth_asked
   truth_of cap = refl
 
   -- IsEnabled replies whether an array is enabled, else whether a capability is
   pub truth_replied : (cap : ℕ) → call ≡ IsEnabled cap
-      → numbers_replied (alone (option_or (number_asked p.tracked call) (found_beside (capability_rows p) cap))) ≡ reply_by None p call
+      → numbers_replied (alone (option_or (number_asked p.tracked call) (found_beside (capability_rows p) cap))) ≡ private_reply None p call event
   truth_replied cap is = rw is (truth_of cap)

@@ -2,4 +2,3 @@ pub mod Clamping
 pub mod Depths
 pub mod Getting
 pub mod Stepping
-pub mod Widths

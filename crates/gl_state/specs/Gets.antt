@@ -1,9 +1,9 @@
 -- The numbers that gets give of the private state; section 6.1. Those of tracked state stand in the crate of drivers.
-use Rattle.std.specs.Prelude.{◌≡◌, ℕ, ℤ, pos, ◌==◌, false, if◌then◌else◌, List, [], ◌∷◌, length, slice_index_or, Option, Some, None}
+use Rattle.std.specs.Prelude.{ℕ, ℤ, pos, ◌==◌, false, if◌then◌else◌, List, [], ◌∷◌, slice_index_or, Option, Some, None, unwrap_or}
 use Rattle.std.specs.Option.{option_map, option_or}
 use Rattle.fixed_transform.specs.declared.matrix.Matrix.{Matrix}
 use Rattle.fixed_transform.specs.Stack.{top_of}
-use Rattle.driver_trait.specs.Gets.{integer_asked, enabled_asked, number_of_truth}
+use Rattle.gl_tracked.specs.Gets.{integer_asked, enabled_asked, number_of_truth}
 use Rattle.gl_state.specs.Private.{PrivateView}
 
 -- what stands beside a name in rows; own
@@ -79,12 +79,17 @@ capability_rows p =
 unfoldable pub truth_asked : PrivateView → ℕ → Option (List ℤ)
 truth_asked p name = alone (option_or (enabled_asked p.tracked name) (found_beside (capability_rows p) name))
 
--- the colours and the rectangles that a get may reply have four numbers, and the matrices sixteen; section 6.1
-pub record AreArrays (p : PrivateView) : Type 0 where
-  pub colour : length p.settings.colour ≡ 4
-  pub clear_colour : length p.settings.clear_colour ≡ 4
-  pub viewport : length p.settings.viewport ≡ 4
-  pub scissor : length p.settings.scissor ≡ 4
-  pub model_view : length (top_of p.stacks.model_view).values ≡ 16
-  pub projection : length (top_of p.stacks.projection).values ≡ 16
-  pub texture : length (texture_matrix p).values ≡ 16
+-- the names of GetFixedv and of GetIntegerv that give more than one number, and how many: CURRENT_COLOR, the matrices and COLOR_CLEAR_VALUE; VIEWPORT and SCISSOR_BOX; section 6.1
+abbrev pub fixed_lists : List (ℕ × ℕ)
+fixed_lists = (0x0B00, 4) ∷ (0x0BA6, 16) ∷ (0x0BA7, 16) ∷ (0x0BA8, 16) ∷ (0x0C22, 4) ∷ []
+
+abbrev pub integers_lists : List (ℕ × ℕ)
+integers_lists = (0x0BA2, 4) ∷ (0x0C10, 4) ∷ []
+
+-- how many numbers GetFixedv gives for a name where they are more than one, else 0; section 6.1
+unfoldable pub fixed_length : ℕ → ℕ
+fixed_length name = unwrap_or (found_beside fixed_lists name) 0
+
+-- how many numbers GetIntegerv gives for a name where they are more than one, else 0; section 6.1
+unfoldable pub integers_length : ℕ → ℕ
+integers_length name = unwrap_or (found_beside integers_lists name) 0

@@ -1,8 +1,8 @@
 -- What contracts see of the private state of a context, and that state at the start. No driver, batch or front stands here.
 use Rattle.std.specs.Prelude.{◌≡◌, ℕ, ◌≤◌, Option, None}
 use Rattle.gl_words.specs.declared.error.GlError.{GlError}
-use Rattle.driver_trait.specs.declared.tracked.Tracked.{Tracked}
-use Rattle.driver_trait.specs.Tracked.{first_tracked, IsSound}
+use Rattle.gl_tracked.specs.declared.tracked.Tracked.{Tracked}
+use Rattle.gl_tracked.specs.Tracked.{first_tracked, IsSound}
 use Rattle.gl_state.specs.declared.settings.Settings.{Settings}
 use Rattle.gl_state.specs.Settings.{first_settings, AreClamped}
 use Rattle.gl_state.specs.Stacks.{StacksView, first_stacks, depths_of}

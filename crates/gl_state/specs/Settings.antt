@@ -27,7 +27,7 @@ whole_frame width height = pos 0 ∷ pos 0 ∷ pos width ∷ pos height ∷ []
 abbrev pub no_colour : List ℤ
 no_colour = pos 0 ∷ pos 0 ∷ pos 0 ∷ pos 0 ∷ []
 
--- the settings of a context with a frame of these sides at the start; tables 6.5 to 6.20
+-- the settings of a context with a frame of these sides at the start; tables 6.4 to 6.20
 unfoldable pub first_settings : ℕ → ℕ → Settings
 first_settings width height = record {
   colour = one ∷ one ∷ one ∷ one ∷ [];

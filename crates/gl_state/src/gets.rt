@@ -1,32 +1,35 @@
 //! What the gets give of private state. The numbers of its tracked part are told in the crate of drivers.
 
-ghost use Rattle.std.specs.Prelude.{◌≡◌, ◌+◌, ◌≤◌, ◌<◌, ◌++◌, [], None, Some, length};
+ghost use Rattle.std.specs.Prelude.{◌≡◌, ◌+◌, ◌≤◌, ◌<◌, ◌++◌, [], None, Some, IsSome, length};
 ghost use Rattle.std.specs.Option.{option_or};
-ghost use Rattle.driver_trait.specs.Gets.{number_of_truth};
+ghost use Rattle.gl_tracked.specs.Gets.{number_of_truth};
 ghost use Rattle.driver_trait.specs.Reply.{replied};
-ghost use Rattle.driver_trait.specs.Step.{number_asked};
-ghost use Rattle.gl_state.specs.Gets.{active_unit, alone, capability_rows, fixed_asked, found_beside, limit_rows, rectangle_rows, setting_rows};
-ghost use Rattle.gl_state.specs.Step.{numbers_in, numbers_replied, reply_by};
+ghost use Rattle.gl_tracked.specs.Step.{number_asked};
+ghost use Rattle.gl_state.specs.Event.{EventReplied};
+ghost use Rattle.gl_state.specs.Gets.{active_unit, alone, capability_rows, fixed_asked, fixed_length, found_beside, integers_length, limit_rows, rectangle_rows, setting_rows};
+ghost use Rattle.gl_state.specs.Step.{list_length, numbers_replied, private_reply};
 
 use crate::private::Private;
-use driver_trait::{Numbers, Reply};
+use driver_trait::Reply;
+use gl_memory::Numbers;
 use gl_words::Call;
 
 impl Private {
     /// What a call without an error replies, ReadPixels aside (sections 2.5 and 6.1).
     pub(crate) fn answer(&self, call: &Call, room: Numbers) -> Reply
         requires empty { room.items ≡ [] }
-        requires room { length (numbers_in (reply_by None self.now call.now)) ≤ room.room }
-        ensures { replied result ≡ reply_by None self.now call.now }
+        requires room { list_length None call.now ≤ room.room }
+        ensures { (event : EventReplied) → replied result
+            ≡ private_reply None self.now call.now event }
     {
         match call {
-            Call::GetError => one(Some(i64::from(self.error_code())), room),
+            Call::GetError => Reply::One(i64::from(self.error_code())),
             Call::GetFixedv { pname, .. } => self.fixed(*pname, room),
             Call::GetIntegerv { pname, .. } => {
-                one_or_four(self.integer(call, *pname), self.rectangle(*pname), room)
+                one_or_all(self.integer(call, *pname), self.rectangle(*pname), room)
             }
-            Call::GetPointerv { .. } => one(self.tracked().asked(call), room),
-            Call::IsEnabled { cap } => one(self.truth(call, *cap), room),
+            Call::GetPointerv { .. } => one(self.tracked().asked(call)),
+            Call::IsEnabled { cap } => one(self.truth(call, *cap)),
             _ => Reply::Nothing,
         }
     }
@@ -72,9 +75,10 @@ impl Private {
         }
     }
 
-    #[tactic(auto, unfolding(crate::specs::Gets::rectangle_rows))]
+    #[tactic(auto, unfolding(crate::specs::Gets::rectangle_rows, crate::specs::Gets::integers_length))]
     fn rectangle(&self, name: u32) -> Option<[i32; 4]>
-        ensures { result ≡ found_beside (rectangle_rows self.now) name }
+        ensures numbers { result ≡ found_beside (rectangle_rows self.now) name }
+        ensures four { IsSome result → integers_length name ≡ 4 }
     {
         match name {
             0x0BA2 => Some(self.settings().viewport),
@@ -84,16 +88,15 @@ impl Private {
     }
 
     /// What GetFixedv gives for a name, as a reply (section 6.1.1).
-    #[tactic(auto, unfolding(crate::specs::Gets::fixed_asked, crate::specs::Gets::fixed_rows, crate::specs::Gets::texture_matrix))]
+    #[tactic(auto, unfolding(crate::specs::Gets::fixed_asked, crate::specs::Gets::fixed_rows, crate::specs::Gets::texture_matrix, crate::specs::Gets::fixed_length))]
     fn fixed(&self, name: u32, room: Numbers) -> Reply
         requires empty { room.items ≡ [] }
-        requires room { length (numbers_in (numbers_replied (fixed_asked self.now name)))
-            ≤ room.room }
+        requires room { fixed_length name ≤ room.room }
         ensures { replied result ≡ numbers_replied (fixed_asked self.now name) }
     {
         match name {
             0x0B00 => all(&self.settings().colour, room),
-            0x0B73 => all(&[self.settings().clear_depth], room),
+            0x0B73 => Reply::One(i64::from(self.settings().clear_depth)),
             0x0BA6 => all(&self.top_at(0x1700).values(), room),
             0x0BA7 => all(&self.top_at(0x1701).values(), room),
             0x0BA8 => all(&self.top_at(0x1702).values(), room),
@@ -147,31 +150,24 @@ fn number_of_truth(is_so: bool) -> i64
 }
 
 /// A number as a reply, where there is one.
-fn one(number: Option<i64>, room: Numbers) -> Reply
-    requires empty { room.items ≡ [] }
-    requires room { length (numbers_in (numbers_replied (alone number))) ≤ room.room }
+fn one(number: Option<i64>) -> Reply
     ensures { replied result ≡ numbers_replied (alone number) }
 {
     match number {
-        Some(number) => {
-            let mut numbers = room;
-            numbers.push(number);
-            Reply::Numbers(numbers)
-        }
+        Some(number) => Reply::One(number),
         None => Reply::Nothing,
     }
 }
 
 /// A number as a reply, else four, where there are some.
-fn one_or_four(number: Option<i64>, four: Option<[i32; 4]>, room: Numbers) -> Reply
+fn one_or_all(number: Option<i64>, four: Option<[i32; 4]>, room: Numbers) -> Reply
     requires empty { room.items ≡ [] }
-    requires room { length (numbers_in (numbers_replied (option_or (alone number) four)))
-        ≤ room.room }
+    requires room { IsSome four → 4 ≤ room.room }
     ensures { replied result ≡ numbers_replied (option_or (alone number) four) }
 {
     match (number, four) {
         (None, Some(four)) => all(&four, room),
-        (number, _) => one(number, room),
+        (number, _) => one(number),
     }
 }
 

@@ -1,8 +1,7 @@
 //! The private state of a context: all that calls set, but objects and pixels; and what a call does to it.
 #![tactic(auto)]
 
-#[cfg(test)]
-mod get_tests;
+mod event;
 mod gets;
 mod plan;
 mod private;
@@ -11,6 +10,7 @@ mod stacks;
 #[cfg(test)]
 mod tests;
 
+pub use event::EventReply;
 pub use plan::Plan;
 pub use private::Private;
 pub use settings::{Capabilities, Settings};

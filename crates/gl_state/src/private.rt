@@ -1,22 +1,25 @@
 //! The private state of a context, its state at the start, and what a call does to it.
 
-ghost use Rattle.std.specs.Prelude.{◌≡◌, ◌<◌, ◌≤◌, ◌≢◌, None, [], length, IfOk, IsErr};
-ghost use Rattle.driver_trait.specs.Fault.{fault_of};
+ghost use Rattle.std.specs.Prelude.{◌≡◌, ◌<◌, ◌≤◌, ◌≢◌, None, [], IfOk, IsErr};
+ghost use Rattle.gl_tracked.specs.Fault.{fault_of};
 ghost use Rattle.driver_trait.specs.Reply.{replied};
-ghost use Rattle.driver_trait.specs.Tracked.{IsSound};
-ghost use Rattle.gl_state.specs.Gets.{AreArrays};
+ghost use Rattle.gl_tracked.specs.Tracked.{IsSound};
+ghost use Rattle.gl_state.specs.Event.{EventReplied, event_replied};
+ghost use Rattle.gl_state.specs.Gets.{fixed_length, integers_length};
 ghost use Rattle.gl_state.specs.Private.{AreSides, first_private};
 ghost use Rattle.gl_state.specs.Settings.{AreClamped, AreWithinOne};
 ghost use Rattle.gl_state.specs.Stacks.{current_of};
-ghost use Rattle.gl_state.specs.Step.{code_of_error, error_set_by, most_numbers, numbers_in, plan_by, plan_of, private_after, private_by, private_reply, recorded};
+ghost use Rattle.gl_state.specs.Step.{code_of_error, error_set_by, fault_in, list_length, plan_by, plan_of, private_after, private_reply, recorded};
 ghost use Rattle.fixed_transform.specs.Stack.{top_of};
 
+use crate::event::EventReply;
 use crate::plan::Plan;
 use crate::settings::Settings;
 use crate::stacks::Stacks;
-use driver_trait::{Numbers, Reply, Tracked};
+use driver_trait::Reply;
 use fixed_transform::Matrix;
-use gl_memory::Memory;
+use gl_memory::{Memory, Numbers};
+use gl_tracked::Tracked;
 use gl_words::{Call, GlError};
 use std::alloc::{AllocError as NoMemory, Global};
 use std::marker::Model;
@@ -58,7 +61,7 @@ impl Model for Private {
 
 impl Private {
     /// The state of a context at the start, of this number and with a frame of these sides in pixels (sections 2.5 and
-    /// 2.10.2, tables 6.5 to 6.20).
+    /// 2.10.2, tables 6.4 to 6.20).
     #[tactic(auto, unfolding(crate::specs::Private::first_private))]
     pub fn new(context: u32, width: u32, height: u32) -> Private
         requires context { context < 4 }
@@ -158,54 +161,52 @@ impl Private {
         }
     }
 
-    /// Room for the numbers of a call's reply. Only this takes memory, and only for a call that may reply numbers; own.
-    pub fn room(&self, alloc: Global, call: &Call) -> Result<Numbers, NoMemory>
-        ensures room { IfOk result (λ numbers.
-            numbers ≡ record { items = []; room = most_numbers call.now }) }
-        ensures enough { IfOk result (λ numbers.
-            length (numbers_in (private_reply self.now call.now)) ≤ numbers.room) }
-        ensures err { IsErr result → most_numbers call.now ≢ 0 }
+    /// Room for the numbers of a call's reply, where they are a list. Only this takes memory, and only for such a call; own.
+    pub fn room(&self, alloc: Global, plan: &Plan, call: &Call) -> Result<Numbers, NoMemory>
+        ensures room { IfOk result (λ numbers. numbers
+            ≡ record { items = []; room = list_length (fault_in plan.now) call.now }) }
+        ensures err { IsErr result → list_length (fault_in plan.now) call.now ≢ 0 }
     {
-        self.arrays();
-        let count = most_numbers(call);
+        match plan.fault() {
+            Some(_) => Ok(Numbers::none(alloc)),
+            None => self.room_without_fault(alloc, call),
+        }
+    }
+
+    /// Room for the numbers of the reply to a call without an error.
+    fn room_without_fault(&self, alloc: Global, call: &Call) -> Result<Numbers, NoMemory>
+        ensures room { IfOk result (λ numbers. numbers
+            ≡ record { items = []; room = list_length None call.now }) }
+        ensures err { IsErr result → list_length None call.now ≢ 0 }
+    {
+        let count = list_length(call);
         if count == 0 {
             return Ok(Numbers::none(alloc));
         }
         Numbers::new(alloc, count)
     }
 
-    /// Says how long the arrays are that a get may reply: a proof learns it where they are read.
-    fn arrays(&self)
-        ensures { AreArrays self.now }
-    {
-        length_four(&self.settings.colour);
-        length_four(&self.settings.clear_colour);
-        length_four(&self.settings.viewport);
-        length_four(&self.settings.scissor);
-        let _model_view = self.top_at(0x1700).values();
-        let _projection = self.top_at(0x1701).values();
-        let _texture = self.top_at(0x1702).values();
-    }
-
-    /// What a call other than ReadPixels replies, as the private state shows it just before the call; the numbers go into
-    /// a room for them. It takes no memory (sections 2.5 and 6.1).
-    #[tactic(auto, unfolding(crate::specs::Step::private_reply))]
-    pub fn reply(&self, call: &Call, room: Numbers) -> Reply
+    /// What a call other than ReadPixels replies, as the private state shows it just before the call; the numbers of a
+    /// list go into the room for them. It takes no memory (sections 2.5 and 6.1).
+    pub fn reply(&self, plan: &Plan, call: &Call, _event: &EventReply, room: Numbers) -> Reply
         requires empty { room.items ≡ [] }
-        requires room { length (numbers_in (private_reply self.now call.now)) ≤ room.room }
-        ensures { replied result ≡ private_reply self.now call.now }
+        requires room { list_length (fault_in plan.now) call.now ≤ room.room }
+        ensures { replied result ≡ private_reply (fault_in plan.now) self.now call.now
+            (event_replied _event.now) }
     {
-        match self.tracked.fault(call) {
+        match plan.fault() {
             Some(_) => Reply::Nothing,
             None => self.answer(call, room),
         }
     }
 
-    /// Takes the step of a call on a memory: an error is recorded, and nothing else is done (section 2.5).
-    pub fn finish<M: Memory>(&mut self, call: &Call, memory: &M)
-        ensures { self.new ≡ private_after self.old call.now (M.segments memory.now) }
+    /// Takes the step of a call with its plan on a memory: an error is recorded, and nothing else is done (section 2.5).
+    pub fn finish<M: Memory>(&mut self, plan: &Plan, call: &Call, memory: &M, _event: &EventReply)
+        requires plan { plan.now ≡ plan_of self.old call.now }
+        ensures { self.new ≡ private_after (fault_in plan.now) self.old call.now
+            (M.segments memory.now) (event_replied _event.now) }
     {
-        match self.tracked.fault(call) {
+        match plan.fault() {
             Some(error) => self.note_error(error),
             None => self.set(call, memory),
         }
@@ -223,13 +224,14 @@ impl Private {
     /// Sets what a call without an error sets.
     fn set<M: Memory>(&mut self, call: &Call, memory: &M)
         requires no_fault { fault_of self.old.tracked call.now ≡ None }
-        ensures { self.new ≡ private_by None self.old call.now (M.segments memory.now) }
+        ensures { (event : EventReplied) → self.new
+            ≡ private_after None self.old call.now (M.segments memory.now) event }
     {
         self.error = error_after(self.error, call);
-        self.settings.set(call);
+        self.settings.set(&self.tracked, call);
         // Before `note`: which stack is current, and that it has room, is what tracked state says before the call.
         self.stacks.set(&self.tracked, call);
-        self.tracked.note(call, memory);
+        self.tracked.note(call, memory, None);
     }
 }
 
@@ -243,22 +245,34 @@ fn error_after(error: Option<GlError>, call: &Call) -> Option<GlError>
     }
 }
 
-/// An array of four numbers is a list of four.
-fn length_four(array: &[i32; 4])
-    ensures { length array.now ≡ 4 }
-{
-    let _slice: &[i32] = array;
-}
-
-/// How many numbers a call may reply.
-#[tactic(auto, unfolding(crate::specs::Step::most_numbers))]
-fn most_numbers(call: &Call) -> u64
-    ensures { result ≡ most_numbers call.now }
+/// How many numbers a call without an error replies as a list, 0 where it replies one number or nothing.
+fn list_length(call: &Call) -> u64
+    ensures { result ≡ list_length None call.now }
 {
     match call {
-        Call::GetError | Call::GetPointerv { .. } | Call::IsEnabled { .. } => 1,
-        Call::GetFixedv { .. } => 16,
-        Call::GetIntegerv { .. } => 4,
+        Call::GetFixedv { pname, .. } => fixed_length(*pname),
+        Call::GetIntegerv { pname, .. } => integers_length(*pname),
+        _ => 0,
+    }
+}
+
+#[tactic(auto, unfolding(crate::specs::Gets::fixed_length))]
+fn fixed_length(name: u32) -> u64
+    ensures { result ≡ fixed_length name }
+{
+    match name {
+        0x0B00 | 0x0C22 => 4,
+        0x0BA6 | 0x0BA7 | 0x0BA8 => 16,
+        _ => 0,
+    }
+}
+
+#[tactic(auto, unfolding(crate::specs::Gets::integers_length))]
+fn integers_length(name: u32) -> u64
+    ensures { result ≡ integers_length name }
+{
+    match name {
+        0x0BA2 | 0x0C10 => 4,
         _ => 0,
     }
 }

@@ -1,10 +1,12 @@
 //! What calls set besides stacks, tracked state and errors: current values, capabilities, masks and the rest.
 
-ghost use Rattle.std.specs.Prelude.{◌≡◌, ◌≤ℤ◌, pos, neg_ℤ, [], ◌∷◌};
+ghost use Rattle.std.specs.Prelude.{◌≡◌, ◌≤ℤ◌, pos, neg_ℤ, List, [], ◌∷◌};
+ghost use Rattle.gl_memory.specs.Segment.{Segment};
 ghost use Rattle.gl_state.specs.Private.{AreSides};
 ghost use Rattle.gl_state.specs.Settings.{clamped_origin, clamped_side, clamped_to_one, clamped_within, first_capabilities, first_settings, one, AreClamped, AreWithinOne, IsViewport};
 ghost use Rattle.gl_state.specs.Step.{settings_set_by};
 
+use gl_tracked::Tracked;
 use gl_words::Call;
 
 /// Which capabilities are enabled (chapters 2 to 4).
@@ -82,7 +84,7 @@ pub struct Settings {
 }
 
 impl Settings {
-    /// Those of a context at the start, with a frame of these sides in pixels (tables 6.5 to 6.20).
+    /// Those of a context at the start, with a frame of these sides in pixels (tables 6.4 to 6.20).
     #[tactic(auto, unfolding(crate::specs::Settings::first_settings))]
     pub(crate) fn new(width: u32, height: u32) -> Settings
         requires sides { AreSides width height }
@@ -117,8 +119,9 @@ impl Settings {
 
     /// Sets what a call without an error sets.
     #[tactic(auto, unfolding(crate::specs::Step::settings_set_by))]
-    pub(crate) fn set(&mut self, call: &Call)
-        ensures set { self.new ≡ settings_set_by self.old call.now }
+    pub(crate) fn set(&mut self, _tracked: &Tracked, call: &Call)
+        ensures set { (memory : List Segment) → self.new
+            ≡ settings_set_by _tracked.now self.old call.now memory }
         ensures clamped { AreClamped self.old → AreClamped self.new }
     {
         match call {

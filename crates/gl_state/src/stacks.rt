@@ -1,13 +1,14 @@
 //! The stacks of matrices of a context.
 
-ghost use Rattle.std.specs.Prelude.{◌≡◌, ◌≢◌, ◌∷◌, length, None};
+ghost use Rattle.std.specs.Prelude.{◌≡◌, ◌≢◌, ◌∷◌, length, List, None};
+ghost use Rattle.gl_memory.specs.Segment.{Segment};
 ghost use Rattle.fixed_transform.specs.Stack.{top_of, below_top};
-ghost use Rattle.driver_trait.specs.Fault.{fault_of};
+ghost use Rattle.gl_tracked.specs.Fault.{fault_of};
 ghost use Rattle.gl_state.specs.Stacks.{first_stacks, current_of, with_current, most_of, depths_of};
 ghost use Rattle.gl_state.specs.Step.{stacks_set_by, with_product};
 
-use driver_trait::Tracked;
 use fixed_transform::{Matrix, Stack, frustum, ortho, rotation, scaling, translation};
+use gl_tracked::Tracked;
 use gl_words::Call;
 use std::marker::Model;
 
@@ -125,7 +126,8 @@ impl Stacks {
     pub(crate) fn set(&mut self, tracked: &Tracked, call: &Call)
         requires no_fault { fault_of tracked.now call.now ≡ None }
         requires depths { tracked.now.depths ≡ depths_of self.old }
-        ensures { self.new ≡ stacks_set_by tracked.now self.old call.now }
+        ensures { (memory : List Segment) → self.new
+            ≡ stacks_set_by tracked.now self.old call.now memory }
     {
         match call {
             Call::Frustumx {

@@ -1,13 +1,16 @@
 use Rattle.std.proofs.Common.{sym, ap, ◌∙◌}
-use Rattle.driver_trait.specs.declared.tracked.Tracked.{Tracked}
-use Rattle.driver_trait.specs.Fault.{fault_of}
-use Rattle.driver_trait.proofs.Stepping.{tracked_after-no_fault}
+use Rattle.gl_tracked.specs.declared.tracked.Tracked.{Tracked}
+use Rattle.gl_tracked.specs.Fault.{fault_of}
+use Rattle.gl_tracked.proofs.Stepping.{tracked_after-no_fault}
 use Rattle.gl_state.specs.contracts.private.Private.{the_view}
 use Rattle.gl_state.specs.Private.{PrivateView}
 use Rattle.gl_state.specs.Stacks.{depths_of}
 use Rattle.gl_state.proofs.Depths.{depths-set_by}
-use Rattle.gl_state.proofs.Stepping.{private_by-parts}
+use Rattle.gl_state.proofs.Stepping.{private_after-parts}
 use Rattle.gl_state.proofs.private.Private.set.Goals as goal
+
+pub note-requires : goal.note-requires
+note-requires g c = record { fault = sym (ap (λ (p : PrivateView). fault_of p.tracked c.args.call.now) c.self.view_is ∙ c.requires.no_fault) }
 
 pub invariant_of-self : goal.invariant_of-self
 invariant_of-self g c =
@@ -18,13 +21,13 @@ invariant_of-self g c =
       depths =
           ap (λ (tracked : Tracked). tracked.depths) (c.note.ensures.step ∙ tracked_after-no_fault c.self.inside.tracked c.args.call.now memory no_fault)
           ∙ depths-set_by c.self.inside.tracked c.self.inside.stacks c.self.invariant.sound c.self.invariant.depths c.args.call.now memory
-          ∙ ap depths_of (sym c.set-2.ensures);
+          ∙ ap depths_of (sym (c.set-2.ensures memory));
       clamped = c.set.ensures.clamped c.self.invariant.clamped;
     }
 
 pub returns : goal.returns
-returns g c =
+returns g c event =
     let memory = g.M.Memory.segments c.args.memory.now in
     let no_fault = ap (λ (p : PrivateView). fault_of p.tracked c.args.call.now) c.self.view_is ∙ c.requires.no_fault in
-    rw (← c.self.view_is) (private_by-parts (the_view c.self.inside) c.args.call.now memory
-    c.error_after-self-inside.ensures (c.note.ensures.step ∙ tracked_after-no_fault c.self.inside.tracked c.args.call.now memory no_fault) c.set-2.ensures c.set.ensures.set)
+    rw (← c.self.view_is) (private_after-parts (the_view c.self.inside) c.args.call.now memory event
+    c.error_after-self-inside.ensures (c.note.ensures.step ∙ tracked_after-no_fault c.self.inside.tracked c.args.call.now memory no_fault) (c.set-2.ensures memory) (c.set.ensures.set memory))

@@ -1,6 +1,6 @@
 use Rattle.std.proofs.Common.{ℤ, ◌≢◌, arith, rules, w32, to_z, of_z, SFits}
 use Rattle.std.proofs.lemmas.Int.{ints}
-use Rattle.driver_trait.proofs.Faults.{frustum_has_frustum, ortho_has_box}
+use Rattle.gl_tracked.proofs.Faults.{frustum_has_frustum, ortho_has_box}
 use Rattle.gl_state.proofs.Depths.{pop_leaves_one, push_finds_room}
 use Rattle.gl_state.proofs.stacks.Stacks.set.Goals as goal
 
