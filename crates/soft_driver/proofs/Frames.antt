@@ -1,27 +1,63 @@
--- Which calls leave the frame.
-use Rattle.std.proofs.Common.{◌≡◌, Option, Some, None, refl}
+-- Which calls leave the frame, and that none changes its sides.
+use Rattle.std.proofs.Common.{◌≡◌, ℕ, List, Option, Some, None, refl, sym, ap, ◌∙◌}
+use Rattle.std.proofs.lemmas.Bool.{cond_both}
 use Rattle.gl_words.specs.declared.call.Call.{Call}
 use Rattle.gl_words.specs.declared.call.Call.TheVariants.{Clear}
 use Rattle.gl_words.specs.declared.error.GlError.{GlError}
-use Rattle.gl_state.specs.declared.plan.Plan.TheVariants.{Fault, Local, Pixels}
-use Rattle.gl_state.specs.Private.{PrivateView}
-use Rattle.gl_state.specs.Step.{plan_by}
-use Rattle.soft_driver.specs.Frame.{FrameView}
-use Rattle.soft_driver.specs.Own.{frame_by}
+use Rattle.gl_memory.specs.Segment.{Segment}
+use Rattle.gl_tracked.specs.Fault.{fault_of}
+use Rattle.gl_state.specs.declared.plan.Plan.TheVariants.{Local}
+use Rattle.gl_state.specs.Event.{EventReplied}
+use Rattle.gl_state.specs.Private.{PrivateView, first_private}
+use Rattle.gl_state.specs.Step.{plan_by, plan_of, private_after}
+use Rattle.soft_driver.specs.Frame.{FrameView, filled, first_frame}
+use Rattle.soft_driver.specs.Own.{AreTied, clears_colour, frame_after}
 
--- a call that needs no pixels leaves them
-pub frame_by-local : (fault : Option GlError) (state : PrivateView) (frame : FrameView) (call : Call) → plan_by fault call ≡ Local → frame_by fault state frame call ≡ frame
-frame_by-local (Some error) state frame call h = refl
-frame_by-local None state frame (Clear mask) h = absurd (cc)
-frame_by-local None state frame _ h = refl
+module _ (state : PrivateView) (frame : FrameView) (memory : List Segment) (event : EventReplied) where
+  frame_after-local_by : (fault : Option GlError) (call : Call) → plan_by fault call ≡ Local → frame ≡ frame_after None state frame call memory event
+  frame_after-local_by (Some error) call h = absurd (cc)
+  frame_after-local_by None (Clear mask) h = absurd (cc)
+  frame_after-local_by None _ h = refl
 
--- so does one with an error
-pub frame_by-fault : (fault : Option GlError) (error : GlError) (state : PrivateView) (frame : FrameView) (call : Call) → plan_by fault call ≡ Fault error → frame_by fault state frame call ≡ frame
-frame_by-fault (Some error) other state frame call h = refl
-frame_by-fault None other state frame (Clear mask) h = absurd (cc)
-frame_by-fault None other state frame _ h = refl
+  -- a call that needs no pixels leaves them
+  pub frame_after-local : (call : Call) → plan_of state call ≡ Local → frame ≡ frame_after None state frame call memory event
+  unfolding plan_of
+  frame_after-local call h = frame_after-local_by (fault_of state.tracked call) call h
 
--- and one that needs them has no error
-pub frame_by-pixels : (fault : Option GlError) (state : PrivateView) (frame : FrameView) (call : Call) → plan_by fault call ≡ Pixels → frame_by fault state frame call ≡ frame_by None state frame call
-frame_by-pixels (Some error) state frame call h = absurd (cc)
-frame_by-pixels None state frame call h = refl
+  filled-same : (mask : ℕ) (side : FrameView → ℕ) → side (filled frame state.settings.clear_colour) ≡ side frame
+      → side (frame_after None state frame (Clear mask) memory event) ≡ side frame
+  filled-same mask side same = cond_both (clears_colour mask) _ _ (λ (f : FrameView). side f ≡ side frame) (λ _. same) (λ _. refl)
+
+  frame_after-width : (fault : Option GlError) (call : Call) → (frame_after fault state frame call memory event).width ≡ frame.width
+  unfolding filled
+  frame_after-width (Some error) call = refl
+  frame_after-width None (Clear mask) = filled-same mask (λ (f : FrameView). f.width) refl
+  frame_after-width None _ = refl
+
+  frame_after-height : (fault : Option GlError) (call : Call) → (frame_after fault state frame call memory event).height ≡ frame.height
+  unfolding filled
+  frame_after-height (Some error) call = refl
+  frame_after-height None (Clear mask) = filled-same mask (λ (f : FrameView). f.height) refl
+  frame_after-height None _ = refl
+
+  private_after-width : (fault : Option GlError) (call : Call) → (private_after fault state call memory event).width ≡ state.width
+  private_after-width (Some error) call = refl
+  private_after-width None call = refl
+
+  private_after-height : (fault : Option GlError) (call : Call) → (private_after fault state call memory event).height ≡ state.height
+  private_after-height (Some error) call = refl
+  private_after-height None call = refl
+
+  -- a step leaves the sides as they are, in both
+  pub step_keeps_sides : (fault : Option GlError) (call : Call) (state2 : PrivateView) (frame2 : FrameView) → AreTied state frame
+      → state2 ≡ private_after fault state call memory event → frame2 ≡ frame_after fault state frame call memory event → AreTied state2 frame2
+  step_keeps_sides fault call state2 frame2 tied stepped drawn =
+      record {
+        width = ap (λ (f : FrameView). f.width) drawn ∙ frame_after-width fault call ∙ tied.width ∙ sym (private_after-width fault call) ∙ sym (ap (λ (p : PrivateView). p.width) stepped);
+        height = ap (λ (f : FrameView). f.height) drawn ∙ frame_after-height fault call ∙ tied.height ∙ sym (private_after-height fault call) ∙ sym (ap (λ (p : PrivateView). p.height) stepped);
+      }
+
+-- at the start both have the sides that were asked for
+pub first_tied : (context width height : ℕ) → AreTied (first_private context width height) (first_frame width height)
+unfolding first_private first_frame
+first_tied context width height = record { width = refl; height = refl }

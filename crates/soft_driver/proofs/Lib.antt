@@ -1,3 +1,4 @@
 mod Frames
 mod Replies
+mod Steps
 pub mod Readings

@@ -1,19 +1,25 @@
 -- The own state of a context, and what a call does to it. No batch, slot, class or front stands here.
-use Rattle.std.specs.Prelude.{ℕ, ℤ, pos, negsuc, Bool, if◌then◌else◌, ◌==◌, bit_and, List, Option, Some, None}
+use Rattle.std.specs.Prelude.{◌≡◌, ℕ, ℤ, pos, negsuc, Bool, true, false, if◌then◌else◌, ◌==◌, nat_lt, bit_and, List, Option, Some, None}
 use Rattle.gl_words.specs.declared.call.Call.{Call}
 use Rattle.gl_words.specs.declared.call.Call.TheVariants.{Clear, ReadPixels}
 use Rattle.gl_words.specs.declared.error.GlError.{GlError}
 use Rattle.gl_memory.specs.Segment.{Segment}
-use Rattle.driver_trait.specs.Fault.{fault_of}
+use Rattle.gl_tracked.specs.Fault.{fault_of}
 use Rattle.driver_trait.specs.Reply.{Replied, Nothing, Bytes}
+use Rattle.gl_state.specs.Event.{EventReplied}
 use Rattle.gl_state.specs.Private.{PrivateView, first_private}
-use Rattle.gl_state.specs.Step.{private_after, private_reply}
+use Rattle.gl_state.specs.Step.{list_length, private_after, private_reply}
 use Rattle.soft_driver.specs.Frame.{FrameView, first_frame, filled, bytes_read}
 
 -- the own state of a context: its private state and its frame; own
 pub record Own : Type 0 where
   pub state : PrivateView
   pub frame : FrameView
+
+-- the frame has the sides that the private state tells; own
+pub record AreTied (state : PrivateView) (frame : FrameView) : Type 0 where
+  pub width : frame.width ≡ state.width
+  pub height : frame.height ≡ state.height
 
 -- a context of this number and these sides at the start; section 2.5, the frame's start own
 unfoldable pub first_own : ℕ → ℕ → ℕ → Own
@@ -23,30 +29,41 @@ first_own context width height = record { state = first_private context width he
 abbrev pub clears_colour : ℕ → Bool
 clears_colour mask = bit_and mask 0x4000 == 0x4000
 
--- the frame after a call with this error, or none: Clear gives each pixel the clear colour, and no other call draws; section 4.2.3
-abbrev pub frame_by : Option GlError → PrivateView → FrameView → Call → FrameView
-frame_by (Some error) state frame call = frame
-frame_by None state frame (Clear mask) = if clears_colour mask then filled frame state.settings.clear_colour else frame
-frame_by None state frame _ = frame
-
--- the own state after a call on a memory; sections 2.5 and 4.2.3
-unfoldable pub own_after : Own → Call → List Segment → Own
-own_after own call memory = record {
-  state = private_after own.state call memory;
-  frame = frame_by (fault_of own.state.tracked call) own.state own.frame call;
-}
+-- the frame after a call with this error, or none, on a memory, its event having given this back: Clear gives each pixel the clear colour, and no other call draws; section 4.2.3. No call draws from memory, or with what an event gave back, yet
+abbrev pub frame_after : Option GlError → PrivateView → FrameView → Call → List Segment → EventReplied → FrameView
+frame_after (Some error) state frame call memory event = frame
+frame_after None state frame (Clear mask) memory event = if clears_colour mask then filled frame state.settings.clear_colour else frame
+frame_after None state frame _ memory event = frame
 
 -- a number without its sign, where it has none; no side that is read is below 0; own
 abbrev pub side_of : ℤ → ℕ
 side_of (pos side) = side
 side_of (negsuc below) = 0
 
--- what a call replies with this error, or none: ReadPixels the bytes of its pixels, all others what the private state shows; sections 2.5, 4.3.1 and 6.1
-abbrev pub own_reply_by : Option GlError → Own → Call → Replied
-own_reply_by (Some error) own call = Nothing
-own_reply_by None own (ReadPixels x y width height format kind pixels) = Bytes (bytes_read own.frame x y (side_of width) (side_of height))
-own_reply_by None own call = private_reply own.state call
+-- what a call replies with this error, or none, its event having given this back: ReadPixels the bytes of its pixels, all others what the private state shows; sections 2.5, 4.3.1 and 6.1
+abbrev pub own_reply : Option GlError → Own → Call → EventReplied → Replied
+own_reply (Some error) own call event = Nothing
+own_reply None own (ReadPixels x y width height format kind pixels) event = Bytes (bytes_read own.frame x y (side_of width) (side_of height))
+own_reply None own call event = private_reply None own.state call event
 
--- what a call replies; section 2.5
-unfoldable pub own_reply : Own → Call → Replied
-own_reply own call = own_reply_by (fault_of own.state.tracked call) own call
+-- what a step gives: the own state after a call, and its reply; own
+pub record Stepped : Type 0 where
+  pub own : Own
+  pub reply : Replied
+
+-- the step of a call with this error, or none, on a memory, its event having given this back: each part by its own definition; sections 2.5 and 4.2.3
+abbrev pub own_step_by : Option GlError → Own → Call → List Segment → EventReplied → Stepped
+own_step_by fault own call memory event = record {
+  own = record { state = private_after fault own.state call memory event; frame = frame_after fault own.state own.frame call memory event };
+  reply = own_reply fault own call event;
+}
+
+-- the step of a call on a memory, its event having given this back: the error is that of the call; section 2.5
+unfoldable pub own_step : Own → Call → List Segment → EventReplied → Stepped
+own_step own call memory event = own_step_by (fault_of own.state.tracked call) own call memory event
+
+-- a call with this error, or none, replies a list, for which memory is asked: ReadPixels bytes, others more than one number; own
+abbrev pub replies_list : Option GlError → Call → Bool
+replies_list (Some error) call = false
+replies_list None (ReadPixels x y width height format kind pixels) = true
+replies_list None call = nat_lt 0 (list_length None call)

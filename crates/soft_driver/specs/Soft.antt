@@ -7,85 +7,94 @@ use Rattle.gl_words.specs.declared.call.Call.{Call}
 use Rattle.gl_words.specs.declared.call.Call.TheVariants.{Clear, ReadPixels}
 use Rattle.gl_words.specs.declared.error.GlError.{GlError}
 use Rattle.gl_memory.specs.Segment.{Segment}
-use Rattle.gl_memory.specs.Piece.{Agree}
-use Rattle.driver_trait.specs.declared.tracked.Tracked.{Tracked}
+use Rattle.gl_tracked.specs.declared.tracked.Tracked.{Tracked}
 use Rattle.driver_trait.specs.Driver.{IsDriver, ReadsAlone, Follows, Answers, Replies}
-use Rattle.driver_trait.specs.Fault.{fault_of}
+use Rattle.gl_tracked.specs.Fault.{fault_of}
 use Rattle.driver_trait.specs.Reply.{Replied, Nothing, Numbers}
-use Rattle.driver_trait.specs.Step.{reads_of, number_asked}
-use Rattle.driver_trait.proofs.Asking.{fault_of-asked}
+use Rattle.gl_tracked.specs.Step.{number_asked}
+use Rattle.gl_tracked.proofs.Asking.{fault_of-asked}
+use Rattle.gl_state.specs.Event.{EventReplied, NoEvent}
 use Rattle.gl_state.proofs.Stepping.{tracked_of-private_after, private_after-asked, private_after-memory, private_reply-asked, private_reply-unanswered}
 use Rattle.gl_state.specs.Private.{PrivateView}
 use Rattle.gl_state.specs.Step.{private_reply}
 use Rattle.soft_driver.specs.Frame.{FrameView}
-use Rattle.soft_driver.specs.Own.{Own, frame_by, own_after, own_reply, own_reply_by}
+use Rattle.soft_driver.specs.Own.{Own, Stepped, frame_after, own_reply, own_step, own_step_by}
 
 -- the tracked part of a context; own
 abbrev pub own_tracked : Own → Tracked
 own_tracked own = own.state.tracked
 
--- a call leads from a context to that after it, with its reply; own
+-- a call leads from a context to what the step gives, with the reply that it gives. No call has an event yet; own
 abbrev pub OwnSteps : Own → Call → List Segment → Own → Replied → Type 0
-OwnSteps st call memory st2 reply = (st2 ≡ own_after st call memory) × (reply ≡ own_reply st call)
+OwnSteps st call memory st2 reply = (st2 ≡ (own_step st call memory NoEvent).own) × (reply ≡ (own_step st call memory NoEvent).reply)
 
-own_after-memory : (own : Own) (call : Call) (m n : List Segment) → Agree m n (reads_of own.state.tracked call m) → own_after own call m ≡ own_after own call n
-unfolding own_after
-own_after-memory own call m n agree =
-    ap (λ (state : PrivateView). record { state = state; frame = frame_by (fault_of own.state.tracked call) own.state own.frame call }) (private_after-memory own.state call m n agree)
+frame_after-memory : (fault : Option GlError) (state : PrivateView) (frame : FrameView) (call : Call) (m n : List Segment) (event : EventReplied)
+    → frame_after fault state frame call m event ≡ frame_after fault state frame call n event
+frame_after-memory (Some error) state frame call m n event = refl
+frame_after-memory None state frame (Clear mask) m n event = refl
+frame_after-memory None state frame _ m n event = refl
+
+-- no call reads memory yet
+own_step-memory : (own : Own) (call : Call) (m n : List Segment) (event : EventReplied) → own_step own call m event ≡ own_step own call n event
+unfolding own_step
+own_step-memory own call m n event =
+    let fault = fault_of own.state.tracked call in
+    cc (private_after-memory fault own.state call m n event, frame_after-memory fault own.state own.frame call m n event)
 
 alone : ReadsAlone own_tracked OwnSteps
 alone st call m n st2 reply in_range bytes others agree =
-    let same = own_after-memory st call m n agree in
-    (λ step. (step.0 ∙ same, step.1), λ step. (step.0 ∙ sym same, step.1))
+    let same = own_step-memory st call m n NoEvent in (
+      λ step. (step.0 ∙ ap (λ (s : Stepped). s.own) same, step.1 ∙ ap (λ (s : Stepped). s.reply) same),
+      λ step. (step.0 ∙ ap (λ (s : Stepped). s.own) (sym same), step.1 ∙ ap (λ (s : Stepped). s.reply) (sym same)),
+    )
 
 follows : Follows own_tracked OwnSteps
-unfolding own_after
-follows st call m st2 reply in_range bytes step = ap own_tracked (step.0) ∙ tracked_of-private_after st.state call m
+unfolding own_step
+follows st call m st2 reply in_range bytes step = ap own_tracked (step.0) ∙ tracked_of-private_after st.state call m NoEvent
 
-frame_by-asked : (state : PrivateView) (frame : FrameView) (call : Call) (number : ℤ) → number_asked state.tracked call ≡ Some number → frame_by None state frame call ≡ frame
-unfolding number_asked
-frame_by-asked state frame (Clear mask) number asked = absurd (none-some number asked)
-frame_by-asked state frame _ number asked = refl
+-- what a step gives, by its parts
+abbrev stepped_at : PrivateView → FrameView → Replied → Stepped
+stepped_at state frame reply = record { own = record { state = state; frame = frame }; reply = reply }
 
-own_reply_by-asked : (own : Own) (call : Call) (number : ℤ) → number_asked own.state.tracked call ≡ Some number → own_reply_by None own call ≡ private_reply own.state call
-unfolding number_asked
-own_reply_by-asked own (ReadPixels x y width height format kind pixels) number asked = absurd (none-some number asked)
-own_reply_by-asked own _ number asked = refl
+module _ (own : Own) where
+  frame_after-asked : (call : Call) (number : ℤ) (m : List Segment) (event : EventReplied) → number_asked own.state.tracked call ≡ Some number
+      → frame_after None own.state own.frame call m event ≡ own.frame
+  unfolding number_asked
+  frame_after-asked (Clear mask) number m event asked = absurd (none-some number asked)
+  frame_after-asked _ number m event asked = refl
 
-module _ (own : Own) (call : Call) (number : ℤ) (asked : number_asked own.state.tracked call ≡ Some number) where
+  own_reply-asked : (call : Call) (number : ℤ) (event : EventReplied) → number_asked own.state.tracked call ≡ Some number
+      → own_reply None own call event ≡ private_reply None own.state call event
+  unfolding number_asked
+  own_reply-asked (ReadPixels x y width height format kind pixels) number event asked = absurd (none-some number asked)
+  own_reply-asked _ number event asked = refl
+
   -- a call that asks for a number of tracked state has no error, draws nothing, changes nothing, and is answered by that number
-  no_fault : fault_of own.state.tracked call ≡ None
-  no_fault = fault_of-asked own.state.tracked call number asked
+  own_step-asked : (call : Call) (number : ℤ) (m : List Segment) (event : EventReplied) → number_asked own.state.tracked call ≡ Some number
+      → own_step own call m event ≡ record { own = own; reply = Numbers (number ∷ []) }
+  unfolding own_step
+  own_step-asked call number m event asked =
+      ap (λ (fault : Option GlError). own_step_by fault own call m event) (fault_of-asked own.state.tracked call number asked)
+      ∙ ap (λ (state : PrivateView). stepped_at state (frame_after None own.state own.frame call m event) (own_reply None own call event)) (private_after-asked own.state event call m number asked)
+      ∙ ap (λ (frame : FrameView). stepped_at own.state frame (own_reply None own call event)) (frame_after-asked call number m event asked)
+      ∙ ap (λ (reply : Replied). stepped_at own.state own.frame reply) (own_reply-asked call number event asked ∙ private_reply-asked own.state event call number asked)
 
-  own_after-asked : (m : List Segment) → own_after own call m ≡ own
-  unfolding own_after
-  own_after-asked m =
-      ap (λ (state : PrivateView). record { state = state; frame = frame_by (fault_of own.state.tracked call) own.state own.frame call }) (private_after-asked own.state call m number asked)
-      ∙ ap (λ (fault : Option GlError). record own { frame = frame_by fault own.state own.frame call }) no_fault
-      ∙ ap (λ (frame : FrameView). record own { frame = frame }) (frame_by-asked own.state own.frame call number asked)
-
-  own_reply-asked : own_reply own call ≡ Numbers (number ∷ [])
-  unfolding own_reply
-  own_reply-asked =
-      ap (λ (fault : Option GlError). own_reply_by fault own call) no_fault
-      ∙ own_reply_by-asked own call number asked
-      ∙ private_reply-asked own.state call number asked
+  own_reply-unanswered : (fault : Option GlError) (call : Call) (event : EventReplied) → is_answering call ≡ false → own_reply fault own call event ≡ Nothing
+  unfolding is_answering
+  own_reply-unanswered (Some error) call event h = refl
+  own_reply-unanswered None (ReadPixels x y width height format kind pixels) event h = absurd (true≢false h)
+  own_reply-unanswered None call event h = private_reply-unanswered own.state event None call h
 
 answers : Answers own_tracked OwnSteps
 answers st call m number st2 reply in_range bytes asked =
-    let same = own_after-asked st call number asked m in
-    let given = own_reply-asked st call number asked in
-    (λ step. (step.0 ∙ same, step.1 ∙ given), λ step. (step.0 ∙ sym same, step.1 ∙ sym given))
-
-own_reply_by-unanswered : (fault : Option GlError) (own : Own) (call : Call) → is_answering call ≡ false → own_reply_by fault own call ≡ Nothing
-unfolding is_answering
-own_reply_by-unanswered (Some error) own call h = refl
-own_reply_by-unanswered None own (ReadPixels x y width height format kind pixels) h = absurd (true≢false h)
-own_reply_by-unanswered None own call h = private_reply-unanswered own.state call h
+    let same = own_step-asked st call number m NoEvent asked in
+    let stays = ap (λ (s : Stepped). s.own) same in
+    let gives = ap (λ (s : Stepped). s.reply) same in
+    (λ step. (step.0 ∙ stays, step.1 ∙ gives), λ step. (step.0 ∙ sym stays, step.1 ∙ sym gives))
 
 replies : Replies own_tracked OwnSteps
-unfolding own_reply
-replies st call m st2 reply in_range bytes none step = step.1 ∙ own_reply_by-unanswered (fault_of st.state.tracked call) st call none
+unfolding own_step
+replies st call m st2 reply in_range bytes none step = step.1 ∙ own_reply-unanswered st (fault_of st.state.tracked call) call NoEvent none
 
 -- the relation of the driver keeps the laws
 pub soft_is_driver : IsDriver own_tracked OwnSteps

@@ -5,7 +5,7 @@ ghost use Rattle.soft_driver.specs.Frame.{bytes_read, pixel_at, row_read};
 ghost use Rattle.soft_driver.specs.Reading.{columns_read, Divides, IsInside};
 
 use crate::frame::Frame;
-use driver_trait::Octets;
+use gl_memory::Octets;
 use std::alloc::{AllocError as NoMemory, Global};
 
 /// The columns of a row that lie inside a frame, counted from where the row is read: from `first` to before `until`.

@@ -1,22 +1,24 @@
 //! The driver that carries calls out by itself, in memory. It packs nothing and waits for nobody.
 
-ghost use Rattle.std.specs.Prelude.{◌≡◌, ◌≢◌, ◌<◌, ◌≤◌, ◌≤ℤ◌, pos, true, None, IfOk, IsErr, OnErr};
+ghost use Rattle.std.specs.Prelude.{◌≡◌, ◌≢◌, ◌<◌, ◌≤◌, ◌≤ℤ◌, pos, true, false, List, None, IfOk, IsOk, IsErr, OnErr};
 ghost use Rattle.std.specs.Thread.{IsSync};
 ghost use Rattle.gl_words.specs.Call.{is_answering};
-ghost use Rattle.gl_words.specs.declared.call.Call.{Call};
-ghost use Rattle.driver_trait.specs.Fault.{fault_of};
+ghost use Rattle.gl_memory.specs.Segment.{Segment};
+ghost use Rattle.gl_tracked.specs.Fault.{fault_of};
 ghost use Rattle.driver_trait.specs.Reply.{replied, Bytes};
-ghost use Rattle.driver_trait.specs.Tracked.{IsSound};
+ghost use Rattle.gl_tracked.specs.Tracked.{IsSound};
 ghost use Rattle.gl_state.specs.Private.{AreSides};
-ghost use Rattle.gl_state.specs.Step.{most_numbers, private_reply};
+ghost use Rattle.gl_state.specs.Event.{EventReplied, event_replied};
+ghost use Rattle.gl_state.specs.Step.{fault_in, list_length, plan_of, private_reply};
 ghost use Rattle.soft_driver.specs.Frame.{bytes_read};
-ghost use Rattle.soft_driver.specs.Own.{first_own, frame_by, own_after, own_reply, side_of};
+ghost use Rattle.soft_driver.specs.Own.{first_own, frame_after, own_reply, own_step, replies_list, side_of};
 ghost use Rattle.soft_driver.specs.Soft.{own_tracked, OwnSteps, soft_is_driver};
 
 use crate::frame::Frame;
-use driver_trait::{Driver, Machine, Reply, Tracked};
+use driver_trait::{Driver, Machine, Reply};
 use gl_memory::Memory;
-use gl_state::{Plan, Private};
+use gl_state::{EventReply, Plan, Private};
+use gl_tracked::Tracked;
 use gl_words::Call;
 use std::alloc::{AllocError as NoMemory, Global};
 use std::marker::Model;
@@ -34,11 +36,13 @@ pub struct Soft {
 }
 
 impl Model for Soft {
-    ghost use Rattle.soft_driver.specs.Own.{Own};
+    ghost use Rattle.soft_driver.specs.Own.{AreTied, Own};
 
     ghost Value = { Own };
 
     ghost view = { λ s. record { state = s.state; frame = s.frame } };
+
+    ghost invariant = { λ s. AreTied s.state s.frame };
 }
 
 impl Soft {
@@ -58,7 +62,7 @@ impl Soft {
         })
     }
 
-    /// The frame, without the rest.
+    /// The frame, without the rest; own.
     pub fn into_parts(self) -> Frame
         ensures { result ≡ self.frame }
     {
@@ -73,26 +77,13 @@ impl Soft {
         self.state.tracked()
     }
 
-    /// Carries a call out on a memory, and gives its reply. Want of memory leaves the driver as it was, and only a call
-    /// that is answered takes any.
-    #[tactic(auto, unfolding(crate::specs::Own::own_after))]
-    pub fn carry_out<M: Memory>(&mut self, call: &Call, memory: &M) -> Result<Reply, NoMemory>
-        ensures ok { IfOk result
-            (λ reply. OwnSteps self.old call.now (M.segments memory.now) self.new (replied reply)) }
-        ensures err { OnErr result (self.new ≡ self.old) }
-        ensures memory { IsErr result → is_answering call.now ≡ true }
-    {
-        let reply = self.reply(call)?;
-        draw(&self.state, &mut self.frame, call);
-        self.state.finish(call, memory);
-        Ok(reply)
-    }
-
-    /// What a call replies, as the own state shows it just before the call. Only a call that is answered takes memory
-    /// (sections 2.5, 4.3.1 and 6.1).
-    fn reply(&self, call: &Call) -> Result<Reply, NoMemory>
-        ensures reply { IfOk result (λ reply. replied reply ≡ own_reply self.now call.now) }
-        ensures memory { IsErr result → is_answering call.now ≡ true }
+    /// What a call with its plan replies, as the own state shows it just before the call. Only the reply of a list takes
+    /// memory (sections 2.5, 4.3.1 and 6.1).
+    fn reply(&self, plan: &Plan, call: &Call, event: &EventReply) -> Result<Reply, NoMemory>
+        requires plan { plan.now ≡ plan_of self.now.state call.now }
+        ensures reply { IfOk result (λ reply. replied reply
+            ≡ own_reply (fault_in plan.now) self.now call.now (event_replied event.now)) }
+        ensures memory { IsErr result → replies_list (fault_in plan.now) call.now ≡ true }
     {
         match call {
             Call::ReadPixels {
@@ -101,11 +92,11 @@ impl Soft {
                 width,
                 height,
                 ..
-            } => match self.state.plan(call) {
-                Plan::Pixels => self.pixels(*x, *y, *width, *height),
-                _ => Ok(Reply::Nothing),
+            } => match plan.fault() {
+                None => self.pixels(*x, *y, *width, *height),
+                Some(_) => Ok(Reply::Nothing),
             },
-            _ => self.numbers(call),
+            _ => self.numbers(plan, call, event),
         }
     }
 
@@ -123,13 +114,13 @@ impl Soft {
     }
 
     /// What the private state replies.
-    fn numbers(&self, call: &Call) -> Result<Reply, NoMemory>
-        ensures reply { IfOk result
-            (λ reply. replied reply ≡ private_reply self.now.state call.now) }
-        ensures memory { IsErr result → most_numbers call.now ≢ 0 }
+    fn numbers(&self, plan: &Plan, call: &Call, event: &EventReply) -> Result<Reply, NoMemory>
+        ensures reply { IfOk result (λ reply. replied reply
+            ≡ private_reply (fault_in plan.now) self.now.state call.now (event_replied event.now)) }
+        ensures memory { IsErr result → list_length (fault_in plan.now) call.now ≢ 0 }
     {
-        let room = self.state.room(self.alloc, call)?;
-        Ok(self.state.reply(call, room))
+        let room = self.state.room(self.alloc, plan, call)?;
+        Ok(self.state.reply(plan, call, event, room))
     }
 }
 
@@ -142,7 +133,9 @@ impl Machine for Soft {
 }
 
 impl Driver for Soft {
-    /// Carries a call out on a memory, and gives its reply, as `carry_out` does.
+    /// Carries a call out on a memory, and gives its reply. Want of memory leaves the driver as it was, and only a reply
+    /// of a list takes any. What calls do is OpenGL ES's (chapters 2 to 6), that memory may be wanted own.
+    #[tactic(auto, unfolding(crate::specs::Own::own_step))]
     fn call<T: Threads + Sync, M: Memory>(
         &mut self,
         _rt: &T,
@@ -152,9 +145,16 @@ impl Driver for Soft {
         ensures ok { IfOk result
             (λ reply. OwnSteps self.old call.now (M.segments memory.now) self.new (replied reply)) }
         ensures err { OnErr result (self.new ≡ self.old) }
-        ensures memory { IsErr result → is_answering call.now ≡ true }
+        ensures memory { IsErr result
+            → replies_list (fault_of self.old.state.tracked call.now) call.now ≡ true }
+        // A call that is put off is refused nothing, and no memory is asked for it.
+        ensures unanswered { is_answering call.now ≡ false → IsOk result }
     {
-        self.carry_out(call, memory)
+        let plan = self.state.plan(call);
+        let reply = self.reply(&plan, call, &EventReply)?;
+        draw(&plan, &self.state, &mut self.frame, call);
+        self.state.finish(&plan, call, memory, &EventReply);
+        Ok(reply)
     }
 }
 
@@ -166,20 +166,23 @@ fn side(number: i32) -> u32
     if number < 0 { 0 } else { number as u32 }
 }
 
-/// Changes the pixels that a call changes.
-fn draw(state: &Private, frame: &mut Frame, call: &Call)
-    ensures { frame.new
-        ≡ frame_by (fault_of state.now.tracked call.now) state.now frame.old call.now }
+/// Changes the pixels that a call with its plan changes.
+fn draw(plan: &Plan, state: &Private, frame: &mut Frame, call: &Call)
+    requires plan { plan.now ≡ plan_of state.now call.now }
+    ensures { (memory : List Segment) (event : EventReplied) → frame.new
+        ≡ frame_after (fault_in plan.now) state.now frame.old call.now memory event }
 {
-    match state.plan(call) {
+    match plan {
         Plan::Pixels => clear(state, frame, call),
-        Plan::Fault(_) | Plan::Local => {}
+        Plan::Fault(_) => {}
+        Plan::Local => {}
     }
 }
 
 /// Changes the pixels that a call without an error changes (section 4.2.3).
 fn clear(state: &Private, frame: &mut Frame, call: &Call)
-    ensures { frame.new ≡ frame_by None state.now frame.old call.now }
+    ensures { (memory : List Segment) (event : EventReplied) → frame.new
+        ≡ frame_after None state.now frame.old call.now memory event }
 {
     match call {
         Call::Clear { mask } if mask & COLOUR_BIT == COLOUR_BIT => frame.fill(state.clear_colour()),

@@ -1,15 +1,15 @@
-//! The driver through its bound, and the laws at it. Values are those of another program.
+//! The driver through its bound, and the laws at it. Values are those of another program, and names stand as their numbers.
 
 use crate::Soft;
 use driver_trait::laws::{answers_law, follows_law, reads_alone_law, replies_law};
 use driver_trait::{Driver, Recorder, Reply};
 use gl_memory::ClientMemory;
-use gl_words::{Call, call_id};
+use gl_words::{Call, call_from, call_id, shape_of_name};
 use std::alloc::{AllocError as NoMemory, Global};
 use std::test::Fail;
 use std::thread::Threads;
 
-/// Carries a call out on client memory, by whichever driver. Gives its number, or -1 where it replies none.
+/// Carries a call out on client memory, by whichever driver. Gives its number, or -1 where it replies none or a list.
 fn number<T: Threads + Sync, D: Driver>(
     rt: &T,
     alloc: Global,
@@ -21,38 +21,10 @@ fn number<T: Threads + Sync, D: Driver>(
     follows_law(driver);
     answers_law(driver);
     replies_law(driver);
-    let reply = driver.call(rt, call, &memory)?;
-    Ok(number_in(&reply))
-}
-
-/// The number of a reply of one, or -1.
-fn number_in(reply: &Reply) -> i64 {
-    match reply {
-        Reply::One(number) => *number,
-        Reply::Numbers(numbers) => {
-            if numbers.len() == 1 {
-                numbers.at(0)
-            } else {
-                -1
-            }
-        }
-        Reply::Nothing | Reply::Bytes(_) => -1,
+    match driver.call(rt, call, &memory)? {
+        Reply::One(number) => Ok(number),
+        _ => Ok(-1),
     }
-}
-
-/// Whether a driver carries out each of these calls, one after the other.
-fn carries_out<T: Threads + Sync, D: Driver>(
-    rt: &T,
-    driver: &mut D,
-    calls: &[Call],
-    memory: &ClientMemory,
-) -> bool {
-    for call in calls {
-        if driver.call(rt, call, memory).is_err() {
-            return false;
-        }
-    }
-    true
 }
 
 #[test]
@@ -67,23 +39,67 @@ fn the_laws_hold_of_both_drivers(rt: HostRuntime) -> Result<(), Fail> {
     Ok(())
 }
 
-// 1281 is INVALID_VALUE, 1282 INVALID_OPERATION, 1283 STACK_OVERFLOW, 1284 STACK_UNDERFLOW and 1280 INVALID_ENUM.
+// A call of each kind in the order of their numbers, each without an error, after a matrix was pushed; then two errors.
+// 1281 is INVALID_VALUE.
 #[test]
-fn the_first_error_is_answered_once(rt: HostRuntime) -> Result<(), Fail> {
-    let rows = [
-        ([Call::PopMatrix, Call::MatrixMode { mode: 1 }], 1284),
-        ([Call::MatrixMode { mode: 1 }, Call::PopMatrix], 1280),
-        ([Call::Clear { mask: 1 }, Call::PopMatrix], 1281),
-        ([Call::LoadIdentity, Call::Clear { mask: 1 }], 1281),
-        ([Call::Flush, Call::Finish], 0),
+fn a_call_of_each_kind_is_carried_out(rt: HostRuntime) -> Result<(), Fail> {
+    let rows: [(&str, &[i64], i64); 29] = [
+        ("ActiveTexture", &[0x84C1], -1),
+        ("Clear", &[0x4000], -1),
+        ("ClearColorx", &[65536, 0, 0, 65536], -1),
+        ("ClientActiveTexture", &[0x84C1], -1),
+        ("ColorPointer", &[4, 0x1401, 0, 0], -1),
+        ("DisableClientState", &[0x8074], -1),
+        ("EnableClientState", &[0x8074], -1),
+        ("Finish", &[], -1),
+        ("Flush", &[], -1),
+        (
+            "Frustumx",
+            &[-65536, 65536, -65536, 65536, 65536, 131072],
+            -1,
+        ),
+        ("GetError", &[], 0),
+        ("GetFixedv", &[0x0BA6, 0], -1),
+        ("GetIntegerv", &[0x0BA0, 0], 5888),
+        ("GetPointerv", &[0x808E, 0], 0),
+        ("IsEnabled", &[0x8074], 1),
+        ("LoadIdentity", &[], -1),
+        ("MatrixMode", &[0x1700], -1),
+        ("NormalPointer", &[0x1400, 0, 0], -1),
+        ("Orthox", &[-65536, 65536, -65536, 65536, -65536, 65536], -1),
+        ("PixelStorei", &[0x0D05, 1], -1),
+        ("PopMatrix", &[], -1),
+        ("PushMatrix", &[], -1),
+        ("ReadPixels", &[0, 0, 1, 1, 0x1908, 0x1401, 0], -1),
+        ("Rotatex", &[5898240, 0, 0, 65536], -1),
+        ("Scalex", &[65536, 65536, 65536], -1),
+        ("TexCoordPointer", &[2, 0x1402, 0, 0], -1),
+        ("Translatex", &[1, 2, 3], -1),
+        ("VertexPointer", &[3, 0x140C, 0, 0], -1),
+        ("Viewport", &[0, 0, 2, 2], -1),
     ];
-    for (calls, code) in &rows {
-        let mut soft = Soft::new(rt.alloc(), 0, 1, 1)?;
-        for call in calls {
-            assert_eq!(rt; number(&rt, rt.alloc(), &mut soft, call)?, -1);
-        }
-        assert_eq!(rt; number(&rt, rt.alloc(), &mut soft, &Call::GetError)?, *code);
-        assert_eq!(rt; number(&rt, rt.alloc(), &mut soft, &Call::GetError)?, 0);
+    let mut soft = Soft::new(rt.alloc(), 0, 2, 2)?;
+    assert_eq!(rt; number(&rt, rt.alloc(), &mut soft, &Call::PushMatrix)?, -1);
+    let mut last = 0;
+    for (name, args, replied) in rows {
+        let Some(shape) = shape_of_name(name) else {
+            return Err(Fail::new("no such name"));
+        };
+        let Some(call) = call_from(shape.id, args) else {
+            return Err(Fail::new("no such call"));
+        };
+        assert!(rt; last < call_id(&call));
+        last = call_id(&call);
+        assert_eq!(rt; number(&rt, rt.alloc(), &mut soft, &call)?, replied);
+    }
+    let errors = [
+        (Call::Clear { mask: 1 }, -1),
+        (Call::MatrixMode { mode: 1 }, -1),
+        (Call::GetError, 1281),
+        (Call::GetError, 0),
+    ];
+    for (call, replied) in &errors {
+        assert_eq!(rt; number(&rt, rt.alloc(), &mut soft, call)?, *replied);
     }
     Ok(())
 }
@@ -136,128 +152,5 @@ fn a_context_starts_at_each_side(rt: HostRuntime) -> Result<(), Fail> {
     }
     let largest = Soft::new(rt.alloc(), 3, 256, 256)?.into_parts();
     assert_eq!(rt; largest.pixels().len(), 65536);
-    Ok(())
-}
-
-/// A call of each kind that has no error after a matrix was pushed, in the order of their numbers. Names stand as numbers.
-fn accepted() -> [Call; 29] {
-    [
-        Call::ActiveTexture { texture: 0x84C1 },
-        Call::Clear { mask: 0x4000 },
-        Call::ClearColorx {
-            red: 65536,
-            green: 0,
-            blue: 0,
-            alpha: 65536,
-        },
-        Call::ClientActiveTexture { texture: 0x84C1 },
-        Call::ColorPointer {
-            size: 4,
-            kind: 0x1401,
-            stride: 0,
-            pointer: 0,
-        },
-        Call::DisableClientState { array: 0x8074 },
-        Call::EnableClientState { array: 0x8074 },
-        Call::Finish,
-        Call::Flush,
-        Call::Frustumx {
-            left: -65536,
-            right: 65536,
-            bottom: -65536,
-            top: 65536,
-            near: 65536,
-            far: 131072,
-        },
-        Call::GetError,
-        Call::GetFixedv {
-            pname: 0x0BA6,
-            params: 0,
-        },
-        Call::GetIntegerv {
-            pname: 0x0BA2,
-            params: 0,
-        },
-        Call::GetPointerv {
-            pname: 0x808E,
-            params: 0,
-        },
-        Call::IsEnabled { cap: 0x8074 },
-        Call::LoadIdentity,
-        Call::MatrixMode { mode: 0x1700 },
-        Call::NormalPointer {
-            kind: 0x1400,
-            stride: 0,
-            pointer: 0,
-        },
-        Call::Orthox {
-            left: -65536,
-            right: 65536,
-            bottom: -65536,
-            top: 65536,
-            near: -65536,
-            far: 65536,
-        },
-        Call::PixelStorei {
-            pname: 0x0D05,
-            param: 1,
-        },
-        Call::PopMatrix,
-        Call::PushMatrix,
-        Call::ReadPixels {
-            x: 0,
-            y: 0,
-            width: 1,
-            height: 1,
-            format: 0x1908,
-            kind: 0x1401,
-            pixels: 0,
-        },
-        Call::Rotatex {
-            angle: 5898240,
-            x: 0,
-            y: 0,
-            z: 65536,
-        },
-        Call::Scalex {
-            x: 65536,
-            y: 65536,
-            z: 65536,
-        },
-        Call::TexCoordPointer {
-            size: 2,
-            kind: 0x1402,
-            stride: 0,
-            pointer: 0,
-        },
-        Call::Translatex { x: 1, y: 2, z: 3 },
-        Call::VertexPointer {
-            size: 3,
-            kind: 0x140C,
-            stride: 0,
-            pointer: 0,
-        },
-        Call::Viewport {
-            x: 0,
-            y: 0,
-            width: 2,
-            height: 2,
-        },
-    ]
-}
-
-#[test]
-fn a_call_of_each_kind_is_carried_out(rt: HostRuntime) -> Result<(), Fail> {
-    let memory = ClientMemory::new(rt.alloc(), 16)?;
-    let mut soft = Soft::new(rt.alloc(), 0, 2, 2)?;
-    let calls = accepted();
-    assert!(rt; carries_out(&rt, &mut soft, &[Call::PushMatrix], &memory));
-    let mut last = 0;
-    for call in &calls {
-        assert!(rt; last < call_id(call));
-        last = call_id(call);
-        assert!(rt; carries_out(&rt, &mut soft, &[*call], &memory));
-    }
-    assert_eq!(rt; number(&rt, rt.alloc(), &mut soft, &Call::GetError)?, 0);
     Ok(())
 }

@@ -1,16 +1,13 @@
-use Rattle.std.proofs.Common.{sym, ◌∙◌, inl, inr}
-use Rattle.gl_state.specs.Step.{plan_of}
-use Rattle.soft_driver.proofs.Frames.{frame_by-fault, frame_by-local, frame_by-pixels}
+use Rattle.std.proofs.Common.{refl, sym, ◌∙◌}
+use Rattle.soft_driver.proofs.Frames.{frame_after-local}
 use Rattle.soft_driver.proofs.soft.draw.Goals as goal
 
 pub returns-in-Pixels : goal.returns-in-Pixels
-unfolding plan_of
-returns-in-Pixels c = c.clear.ensures ∙ sym (frame_by-pixels _ _ _ _ (sym c.plan.ensures ∙ c.in-Pixels.is))
+returns-in-Pixels c memory event = rw c.in-Pixels.is (c.clear.ensures memory event)
 
 pub returns-in-Fault : goal.returns-in-Fault
-unfolding plan_of
-returns-in-Fault c =
-    elim c.in-Fault.is [
-      | inl fault ↦ sym (frame_by-fault _ (fault.0) _ _ _ (sym c.plan.ensures ∙ fault.1))
-      | inr local ↦ sym (frame_by-local _ _ _ _ (sym c.plan.ensures ∙ local))
-    ]
+returns-in-Fault c memory event = rw c.in-Fault.is refl
+
+pub returns-in-Local : goal.returns-in-Local
+returns-in-Local c memory event =
+    rw c.in-Local.is (frame_after-local c.args.state.now c.args.frame.now memory event c.args.call.now (sym c.requires.plan ∙ c.in-Local.is))

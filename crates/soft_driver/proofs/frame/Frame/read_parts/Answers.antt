@@ -1,13 +1,13 @@
 use Rattle.std.proofs.Common.{ℕ, ◌-◌, ◌*◌, ℤ, pos, List, ◌++◌, replicate, ap, subst, ◌∙◌, w32, to_z, of_z}
 use Rattle.std.proofs.lemmas.Int.{to_z-of_z}
-use Rattle.driver_trait.specs.Room.{Roomy}
+use Rattle.gl_memory.specs.Room.{RoomView}
 use Rattle.soft_driver.specs.Frame.{row_read}
 use Rattle.soft_driver.specs.Reading.{columns_read, Divides}
 use Rattle.soft_driver.proofs.Readings.{row_read-added}
 use Rattle.soft_driver.proofs.frame.Frame.read_parts.Goals as goal
 
 -- bytes with more behind them
-abbrev with_more : List ℕ → Roomy ℕ → Roomy ℕ
+abbrev with_more : List ℕ → RoomView ℕ → RoomView ℕ
 with_more more b = record b { items = b.items ++ more }
 
 pub returns-clause-read : goal.returns-clause-read

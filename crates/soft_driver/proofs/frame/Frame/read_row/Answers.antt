@@ -1,11 +1,11 @@
 use Rattle.std.proofs.Common.{ℕ, pos, ◌<ℤ◌, ◌≤ℤ◌, List, ◌++◌, sym, ap, ◌∙◌, arith}
 use Rattle.std.proofs.lemmas.Int.{ints}
-use Rattle.driver_trait.specs.Room.{Roomy}
+use Rattle.gl_memory.specs.Room.{RoomView}
 use Rattle.soft_driver.proofs.Readings.{row_read-above, row_read-below}
 use Rattle.soft_driver.proofs.frame.Frame.read_row.Goals as goal
 
 -- bytes with more behind them
-abbrev with_more : Roomy ℕ → List ℕ → Roomy ℕ
+abbrev with_more : RoomView ℕ → List ℕ → RoomView ℕ
 with_more b more = record b { items = b.items ++ more }
 
 pub returns-then-row-lt0-clause-read : goal.returns-then-row-lt0-clause-read
