@@ -5,4 +5,3 @@ pub mod Writing
 pub mod Reading
 pub mod Parsing
 pub mod Packings
-pub mod Batching

@@ -3,7 +3,8 @@ use Rattle.std.proofs.Common.{◌≡◌, ℕ, ◌<◌, ◌≤◌, List, [], ◌�
 use Rattle.std.proofs.lemmas.List.{append-nil, append_assoc, append_cancel_left, length-append, drop_at, nil_from_length}
 use Rattle.std.specs.List.{flat_map}
 use Rattle.gl_words.specs.Call.{arguments}
-use Rattle.batch_pack.specs.Spelling.{Spelled, slot_of, segment_spelling, slots_of, header_of, spelling_of, spellings_of, HasSpelling, HaveSpellings, AreSpellings}
+use Rattle.gl_words.specs.Slots.{slot_of}
+use Rattle.batch_pack.specs.Spelling.{Spelled, segment_spelling, slots_of, header_of, spelling_of, spellings_of, HasSpelling, HaveSpellings, AreSpellings}
 use Rattle.batch_pack.specs.Decoding.{slots_said, calls_in}
 use Rattle.batch_pack.specs.Holding.{AreReadable}
 use Rattle.batch_pack.proofs.Spellings.{length-spelling_of, spelling_of-append, slots_said-header_of, same_first_call, spellings_of-append, spellings_of-cons, spellings_of-one, HaveSpellings-append, AreReadable-spelled, calls_in-spelled}

@@ -7,24 +7,10 @@ use Rattle.std.proofs.lemmas.List.{length-append, length-map, take-append-drop}
 use Rattle.gl_words.specs.declared.call.Call.{Call}
 use Rattle.gl_words.specs.Call.{id_of, arguments, IsInRange}
 use Rattle.gl_memory.specs.Segment.{Segment}
-use Rattle.batch_pack.specs.Spelling.{Spelled, slot_of, segment_spelling, IsSegment, slots_of, header_of, spelling_of, HasSpelling}
+use Rattle.gl_words.specs.Slots.{slot_of}
+use Rattle.batch_pack.specs.Spelling.{Spelled, segment_spelling, IsSegment, slots_of, header_of, spelling_of, HasSpelling}
 use Rattle.batch_pack.specs.Decoding.{id_said, slots_said, segments_said}
 use Rattle.batch_pack.proofs.Spellings.{slots_of-parts, header_from_said, spelling_of-append, id_said-header_of, slots_said-header_of, segments_said-header_of}
-
--- integers read from slots are put into these slots again
-pub map_forth : (n : ℕ) (slots : List ℕ) → ((i : ℕ) → Fits w64 (get_or slots i 0)) → map slot_of (map (cast_signed w64) (take n slots)) ≡ take n slots
-unfolding slot_of
-map_forth zero slots fit = refl
-map_forth (suc n) [] fit = refl
-map_forth (suc n) (slot ∷ slots) fit =
-    ap (λ (x : ℕ). x ∷ map slot_of (map (cast_signed w64) (take n slots))) (of_z-to_z w64 slot (fit 0).fits)
-    ∙ ap (λ (xs : List ℕ). slot ∷ xs) (map_forth n slots (λ i. fit (suc i)))
-
--- slots begin with the arguments that are read from them
-pub begins_with_arguments : (n : ℕ) (slots : List ℕ) (call : Call) → ((i : ℕ) → Fits w64 (get_or slots i 0)) → arguments call ≡ map (cast_signed w64) (take n slots)
-    → slots ≡ map slot_of (arguments call) ++ drop n slots
-begins_with_arguments n slots call fit same =
-    sym (take-append-drop n slots) ∙ ap (λ (s : List ℕ). s ++ drop n slots) (sym (ap (map slot_of) same ∙ map_forth n slots fit))
 
 small_slots : (header : ℕ) → slots_said header < 2 ^ 32
 unfolding slots_said

@@ -9,16 +9,14 @@ use Rattle.std.proofs.lemmas.List.{append-nil, append_assoc, append_cancel_left,
 use Rattle.std.proofs.lemmas.List.Elements.{All-weaker, All-from_recursion}
 use Rattle.std.proofs.lemmas.List.Concat.{flat_map-append}
 use Rattle.std.proofs.lemmas.List.Sums.{sum-map}
-use Rattle.gl_words.specs.Kind.{AreOfKinds, IsOfKind}
-use Rattle.gl_words.specs.Call.{id_of, kinds_of, arguments, IsInRange}
-use Rattle.gl_words.specs.CallOf.{call_of, argument_count}
-use Rattle.gl_words.specs.declared.shape.ArgKind.{ArgKind}
-use Rattle.gl_words.specs.declared.shape.ArgKind.TheVariants.{Enum, Unsigned, Int, Fixed, Bool, Pointer}
+use Rattle.gl_words.specs.Call.{id_of, arguments, IsInRange}
+use Rattle.gl_words.specs.CallOf.{argument_count}
+use Rattle.gl_words.specs.Slots.{slot_of, call_begun}
 use Rattle.gl_words.specs.declared.call.Call.{Call}
-use Rattle.gl_words.specs.declared.call.Call.TheVariants.{ActiveTexture, Clear, ClearColorx, ClientActiveTexture, ColorPointer, DisableClientState, EnableClientState, Finish, Flush, Frustumx, GetError, GetFixedv, GetIntegerv, GetPointerv, IsEnabled, LoadIdentity, MatrixMode, NormalPointer, Orthox, PixelStorei, PopMatrix, PushMatrix, ReadPixels, Rotatex, Scalex, TexCoordPointer, Translatex, VertexPointer, Viewport}
-use Rattle.gl_words.proofs.Rows.{call_of-again, argument_count-again}
+use Rattle.gl_words.proofs.Rows.{argument_count-again, small_id}
+use Rattle.gl_words.proofs.Slotted.{call_begun-again}
 use Rattle.gl_memory.specs.Segment.{Segment, AreBytes}
-use Rattle.batch_pack.specs.Spelling.{Spelled, slot_of, segment_slots, segment_spelling, slots_of, header_of, spelling_of, spellings_of, HasSpelling, HaveSpellings, SpellingLaw, IsSegment}
+use Rattle.batch_pack.specs.Spelling.{Spelled, segment_slots, segment_spelling, slots_of, header_of, spelling_of, spellings_of, HasSpelling, HaveSpellings, SpellingLaw, IsSegment}
 use Rattle.batch_pack.specs.Decoding.{id_said, slots_said, segments_said, arguments_said, call_at, segments_at, spelled_at, followed_by, calls_read, calls_in}
 use Rattle.batch_pack.specs.Holding.{AreReadable}
 use Rattle.batch_pack.proofs.Segments.{length-segments, segments_at-spelled}
@@ -38,71 +36,7 @@ length-spelling_of spelled =
     let many = length-map (arguments spelled.call) slot_of in
     omega (arith, slots_of-parts spelled)
 
-pub few_arguments : (call : Call) → length (arguments call) ≤ 9
-unfolding arguments
-few_arguments (ActiveTexture texture) = omega arith
-few_arguments (Clear mask) = omega arith
-few_arguments (ClearColorx red green blue alpha) = omega arith
-few_arguments (ClientActiveTexture texture) = omega arith
-few_arguments (ColorPointer size kind stride pointer) = omega arith
-few_arguments (DisableClientState array) = omega arith
-few_arguments (EnableClientState array) = omega arith
-few_arguments Finish = omega arith
-few_arguments Flush = omega arith
-few_arguments (Frustumx left right bottom top near far) = omega arith
-few_arguments GetError = omega arith
-few_arguments (GetFixedv pname params) = omega arith
-few_arguments (GetIntegerv pname params) = omega arith
-few_arguments (GetPointerv pname params) = omega arith
-few_arguments (IsEnabled cap) = omega arith
-few_arguments LoadIdentity = omega arith
-few_arguments (MatrixMode mode) = omega arith
-few_arguments (NormalPointer kind stride pointer) = omega arith
-few_arguments (Orthox left right bottom top near far) = omega arith
-few_arguments (PixelStorei pname param) = omega arith
-few_arguments PopMatrix = omega arith
-few_arguments PushMatrix = omega arith
-few_arguments (ReadPixels x y width height format kind pixels) = omega arith
-few_arguments (Rotatex angle x y z) = omega arith
-few_arguments (Scalex x y z) = omega arith
-few_arguments (TexCoordPointer size kind stride pointer) = omega arith
-few_arguments (Translatex x y z) = omega arith
-few_arguments (VertexPointer size kind stride pointer) = omega arith
-few_arguments (Viewport x y width height) = omega arith
-
 -- ---- what a header says
-
-pub small_id : (call : Call) → id_of call < 2 ^ 16
-unfolding id_of
-small_id (ActiveTexture texture) = lit< tt
-small_id (Clear mask) = lit< tt
-small_id (ClearColorx red green blue alpha) = lit< tt
-small_id (ClientActiveTexture texture) = lit< tt
-small_id (ColorPointer size kind stride pointer) = lit< tt
-small_id (DisableClientState array) = lit< tt
-small_id (EnableClientState array) = lit< tt
-small_id Finish = lit< tt
-small_id Flush = lit< tt
-small_id (Frustumx left right bottom top near far) = lit< tt
-small_id GetError = lit< tt
-small_id (GetFixedv pname params) = lit< tt
-small_id (GetIntegerv pname params) = lit< tt
-small_id (GetPointerv pname params) = lit< tt
-small_id (IsEnabled cap) = lit< tt
-small_id LoadIdentity = lit< tt
-small_id (MatrixMode mode) = lit< tt
-small_id (NormalPointer kind stride pointer) = lit< tt
-small_id (Orthox left right bottom top near far) = lit< tt
-small_id (PixelStorei pname param) = lit< tt
-small_id PopMatrix = lit< tt
-small_id PushMatrix = lit< tt
-small_id (ReadPixels x y width height format kind pixels) = lit< tt
-small_id (Rotatex angle x y z) = lit< tt
-small_id (Scalex x y z) = lit< tt
-small_id (TexCoordPointer size kind stride pointer) = lit< tt
-small_id (Translatex x y z) = lit< tt
-small_id (VertexPointer size kind stride pointer) = lit< tt
-small_id (Viewport x y width height) = lit< tt
 
 pub id_said-header_of : (spelled : Spelled) → id_said (header_of spelled) ≡ id_of spelled.call
 unfolding id_said header_of
@@ -136,38 +70,8 @@ header_from_said header spelled id slots segments = omega arith
 
 -- ---- arguments
 
--- an integer of any kind fits 64 bits
-kinds_fit : (kind : ArgKind) (z : ℤ) → IsOfKind kind z → FitsSigned w64 z
-kinds_fit Enum z h = omega (arith, ints)
-kinds_fit Unsigned z h = omega (arith, ints)
-kinds_fit Int z h = omega (arith, ints)
-kinds_fit Fixed z h = omega (arith, ints)
-kinds_fit Bool z h = omega (arith, ints)
-kinds_fit Pointer z h = omega (arith, ints)
-
--- what is put into slots is read back from them
-map_back : (kinds : List ArgKind) (zs : List ℤ) → AreOfKinds kinds zs → map (cast_signed w64) (map slot_of zs) ≡ zs
-unfolding slot_of
-map_back [] [] h = refl
-map_back [] (z ∷ zs) h = absurd h
-map_back (kind ∷ kinds) [] h = absurd h
-map_back (kind ∷ kinds) (z ∷ zs) h =
-    ap (λ x. x ∷ map (cast_signed w64) (map slot_of zs)) (to_z-of_z w64 z (kinds_fit kind z (h.0))) ∙ ap (λ xs. z ∷ xs) (map_back kinds zs (h.1))
-
-pub arguments_back : (call : Call) → IsInRange call → map (cast_signed w64) (map slot_of (arguments call)) ≡ arguments call
-unfolding IsInRange
-arguments_back call h = map_back (kinds_of call) (arguments call) h
-
-module _ (call : Call) (more : List ℕ) where
-  pub take-arguments : take (length (arguments call)) (map slot_of (arguments call) ++ more) ≡ map slot_of (arguments call)
-  take-arguments = take_at (map slot_of (arguments call)) more (length (arguments call)) (length-map (arguments call) slot_of)
-
-  pub drop-arguments : drop (length (arguments call)) (map slot_of (arguments call) ++ more) ≡ more
-  drop-arguments = drop_at (map slot_of (arguments call)) more (length (arguments call)) (length-map (arguments call) slot_of)
-
-  -- the arguments are read where they stand
-  pub read-arguments : IsInRange call → map (cast_signed w64) (take (length (arguments call)) (map slot_of (arguments call) ++ more)) ≡ arguments call
-  read-arguments h = ap (map (cast_signed w64)) take-arguments ∙ arguments_back call h
+pub drop-arguments : (call : Call) (more : List ℕ) → drop (length (arguments call)) (map slot_of (arguments call) ++ more) ≡ more
+drop-arguments call more = drop_at (map slot_of (arguments call)) more (length (arguments call)) (length-map (arguments call) slot_of)
 
 -- ---- one spelling
 
@@ -188,10 +92,7 @@ module _ (spelled : Spelled) (more : List ℕ) (h : HasSpelling spelled) where
   call_at-spelled : call_at (header_of spelled) rest ≡ Some spelled.call
   unfolding call_at
   call_at-spelled =
-      ap (λ (i : ℕ). call_of i (map (cast_signed w64) (take (arguments_said (header_of spelled)) rest))) (id_said-header_of spelled)
-      ∙ ap (λ (n : ℕ). call_of (id_of spelled.call) (map (cast_signed w64) (take n rest))) (arguments_said-header_of spelled)
-      ∙ ap (λ (zs : List ℤ). call_of (id_of spelled.call) zs) (read-arguments spelled.call behind h.in_range)
-      ∙ call_of-again spelled.call h.in_range
+      ap (λ (i : ℕ). call_begun i rest) (id_said-header_of spelled) ∙ call_begun-again spelled.call behind h.in_range
 
   segments_at-spelling : segments_at (segments_said (header_of spelled)) (drop (arguments_said (header_of spelled)) rest) ≡ spelled.segments
   segments_at-spelling =

@@ -16,7 +16,8 @@ use Rattle.gl_memory.specs.ClientMemory.{memory_of}
 use Rattle.gl_memory.specs.Piece.{bytes_from, cut_out, cut}
 use Rattle.gl_memory.proofs.Bytes.{byte_at-memory_of}
 use Rattle.gl_memory.proofs.Cuts.{length-bytes_from, slice_index-bytes_from, cut-cons}
-use Rattle.batch_pack.specs.Spelling.{slot_of, slots_for, slot_at, slots_of_bytes, segment_slots, segment_spelling, slots_of, header_of, spelling_of}
+use Rattle.gl_words.specs.Slots.{slot_of}
+use Rattle.batch_pack.specs.Spelling.{slots_for, slot_at, slots_of_bytes, segment_slots, segment_spelling, slots_of, header_of, spelling_of}
 use Rattle.batch_pack.specs.Batch.{captured}
 use Rattle.batch_pack.proofs.Words.{from_le_bytes-same, slot_at-same}
 
@@ -44,19 +45,6 @@ pub slots_of-captured : (call : Call) (pieces : List Piece) (bytes : List ℕ) �
 unfolding slots_of
 slots_of-captured call pieces bytes =
     ap (λ (n : ℕ). 1 + length (arguments call) + n) (sum-map segment_slots (cut pieces (memory_of bytes)) ∙ sum_by-cut (memory_of bytes) pieces)
-
--- ---- the arguments
-
--- one more argument
-pub arguments-more : (old : List ℕ) (zs : List ℤ) (at : ℕ) (z : ℤ) → slice_get zs at ≡ Some z →
-    (old ++ map slot_of (take at zs)) ++ slot_of z ∷ [] ≡ old ++ map slot_of (take (at + 1) zs)
-arguments-more old zs at z e =
-    let one = take_more zs at z (slice_get_within zs at z e) ∙ ap (λ (x : ℤ). take at zs ++ x ∷ []) (get_or_from_slice_get zs at z z e) in
-    append_assoc old (map slot_of (take at zs)) (slot_of z ∷ [])
-    ∙ ap (λ (s : List ℕ). old ++ s) (sym (map-append slot_of (take at zs) (z ∷ [])) ∙ ap (map slot_of) (sym one))
-
-pub length-arguments : (zs : List ℤ) (at : ℕ) → at ≤ length zs → length (map slot_of (take at zs)) ≡ at
-length-arguments zs at within = length-map (take at zs) slot_of ∙ length-take-le at zs within
 
 -- ---- the pieces
 

@@ -7,7 +7,7 @@ use Rattle.gl_words.specs.declared.call.Call.{Call}
 use Rattle.batch_pack.specs.Spelling.{Spelled, spellings_of}
 
 -- a batch holds calls with their segments in at most so many slots; own
-pub record Packing : Type 0 where
+pub record BatchView : Type 0 where
   pub size : ℕ
   pub calls : List Spelled
 
@@ -20,11 +20,11 @@ unfoldable pub slots_used : List Spelled → ℕ
 slots_used calls = length (spellings_of calls)
 
 -- how many slots a batch has left; own
-unfoldable pub slots_left : Packing → ℕ
+unfoldable pub slots_left : BatchView → ℕ
 slots_left batch = batch.size - slots_used batch.calls
 
 -- a batch of so many slots without calls; own
-abbrev pub empty_batch : ℕ → Packing
+abbrev pub empty_batch : ℕ → BatchView
 empty_batch size = record { size = size; calls = [] }
 
 -- sizes of batches: 16 to 8192 slots; own

@@ -1,8 +1,8 @@
 -- The calls and segments that slots spell, read from the front; own. Only where slots are spellings does this say anything.
-use Rattle.std.specs.Prelude.{ℕ, zero, suc, ◌-◌, ◌/◌, ◌%◌, ◌^◌, List, [], ◌∷◌, map, take, drop, length, slice_index, Option, Some, None, unwrap_or}
-use Rattle.std.specs.Int.{cast_signed, w64}
+use Rattle.std.specs.Prelude.{ℕ, zero, suc, ◌-◌, ◌/◌, ◌%◌, ◌^◌, List, [], ◌∷◌, drop, length, slice_index, Option, Some, None, unwrap_or}
 use Rattle.std.specs.Option.{option_map}
-use Rattle.gl_words.specs.CallOf.{call_of, argument_count}
+use Rattle.gl_words.specs.CallOf.{argument_count}
+use Rattle.gl_words.specs.Slots.{call_begun}
 use Rattle.gl_words.specs.declared.call.Call.{Call}
 use Rattle.gl_memory.specs.Segment.{Segment}
 use Rattle.gl_memory.specs.Slots.{lent}
@@ -26,7 +26,7 @@ arguments_said header = unwrap_or (argument_count (id_said header)) 0
 
 -- the call whose spelling begins with this header and goes on with these slots; own
 unfoldable pub call_at : ℕ → List ℕ → Option Call
-call_at header slots = call_of (id_said header) (map (cast_signed w64) (take (arguments_said header) slots))
+call_at header slots = call_begun (id_said header) slots
 
 -- the segment that slots begin with: its start, its length, and its bytes; own
 unfoldable pub segment_at : List ℕ → Segment

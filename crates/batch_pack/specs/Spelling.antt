@@ -1,8 +1,9 @@
 -- The spelling of a call and the memory captured for it, in slots of eight bytes; own. No batch and no reader stands here.
-use Rattle.std.specs.Prelude.{◌≡◌, ℕ, ◌+◌, ◌*◌, ◌/◌, ◌^◌, ◌<◌, ◌≤◌, ℤ, List, [], ◌∷◌, ◌++◌, length, map, take, drop, sum}
-use Rattle.std.specs.Int.{cast_unsigned, from_le_bytes, w64}
+use Rattle.std.specs.Prelude.{◌≡◌, ℕ, ◌+◌, ◌*◌, ◌/◌, ◌^◌, ◌<◌, ◌≤◌, List, [], ◌∷◌, ◌++◌, length, map, take, drop, sum}
+use Rattle.std.specs.Int.{from_le_bytes, w64}
 use Rattle.std.specs.List.{flat_map, range_with_len, AllByRecursion}
 use Rattle.gl_words.specs.Call.{id_of, arguments, IsInRange}
+use Rattle.gl_words.specs.Slots.{slot_of}
 use Rattle.gl_words.specs.declared.call.Call.{Call}
 use Rattle.gl_memory.specs.Segment.{Segment}
 
@@ -10,10 +11,6 @@ use Rattle.gl_memory.specs.Segment.{Segment}
 pub record Spelled : Type 0 where
   pub call : Call
   pub segments : List Segment
-
--- an integer in a slot: itself, or in two's complement of 64 bits where it is negative; own
-unfoldable pub slot_of : ℤ → ℕ
-slot_of z = cast_unsigned w64 z
 
 -- how many slots so many bytes take, eight to a slot; own
 unfoldable pub slots_for : ℕ → ℕ

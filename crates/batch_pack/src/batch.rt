@@ -22,11 +22,11 @@ pub struct Batch {
 
 impl Model for Batch {
     ghost use Rattle.std.specs.Prelude.{vec_capacity};
-    ghost use Rattle.batch_pack.specs.Batch.{Packing};
+    ghost use Rattle.batch_pack.specs.Batch.{BatchView};
     ghost use Rattle.batch_pack.specs.Decoding.{calls_in};
     ghost use Rattle.batch_pack.specs.Holding.{IsHolding};
 
-    ghost Value = { Packing };
+    ghost Value = { BatchView };
 
     ghost view = { λ b. record { size = b.size; calls = calls_in b.slots.items } };
 

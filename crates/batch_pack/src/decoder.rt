@@ -1,20 +1,17 @@
 //! The call and the segments whose spelling slots begin with. Which slots come next is told by the reader.
 
 ghost use Rattle.std.specs.Prelude.{◌≡◌, ◌++◌, ◌+◌, ◌↔◌, ◌<◌, ◌≤◌, ◌^◌, ℕ, List, ◌∷◌, [], length, take, drop, map, IfSome, IsSome, IsTrue, Some};
-ghost use Rattle.std.specs.Int.{cast_signed, w64};
 ghost use Rattle.std.specs.List.{flat_map, AllByRecursion};
-ghost use Rattle.gl_words.specs.Call.{id_of, arguments, IsInRange};
-ghost use Rattle.gl_words.specs.declared.call.Call.{Call};
 ghost use Rattle.gl_memory.specs.Segment.{Segment};
 ghost use Rattle.gl_memory.specs.Slots.{LieIn, lent};
-ghost use Rattle.batch_pack.specs.Spelling.{Spelled, slot_of, slots_for, slots_of_bytes, segment_slots, segment_spelling, spelling_of, IsSegment, HasSpelling};
+ghost use Rattle.batch_pack.specs.Spelling.{Spelled, slots_for, slots_of_bytes, segment_slots, segment_spelling, spelling_of, IsSegment, HasSpelling};
 ghost use Rattle.batch_pack.specs.Decoding.{segment_at, slots_said};
 ghost use Rattle.batch_pack.specs.Packed.{spelled_by};
 
 use crate::packed::Packed;
 use crate::spelling::words_of;
 use gl_memory::Segments;
-use gl_words::{Call, arg_count, arg_count_of, call_from};
+use gl_words::{arg_count, call_in};
 
 /// Where segments may end, in bytes of client memory: no place of theirs reaches it.
 const END: u64 = 0x4000_0000_0000_0000;
@@ -61,35 +58,6 @@ fn packed_behind<'a>(header: u64, rest: &'a [u64]) -> Option<Packed<'a>>
         return None;
     }
     Some(Packed { call, memory })
-}
-
-/// The call with this number whose arguments slots begin with. None exactly where they begin with those of none.
-fn call_in(id: u16, slots: &[u64]) -> Option<Call>
-    ensures found { IfSome result (λ call. IsInRange call × (id_of call ≡ id)
-        × (more : List ℕ) × (slots.now ≡ map slot_of (arguments call) ++ more)) }
-    ensures only { (call : Call) (more : List ℕ) → IsInRange call → id_of call ≡ id
-        → slots.now ≡ map slot_of (arguments call) ++ more → result ≡ Some call }
-{
-    let count = arg_count_of(id)?;
-    if count > slots.len() {
-        return None;
-    }
-    let args = arguments_in(slots, count);
-    call_from(id, &args[..count])
-}
-
-/// The first slots as integers. An argument list has at most 9.
-fn arguments_in(slots: &[u64], n: usize) -> [i64; 9]
-    requires few { n ≤ 9 }
-    requires there { n ≤ length slots.now }
-    ensures read { take n result ≡ map (cast_signed w64) (take n slots.now) }
-    ensures same_length { length result ≡ 9 }
-{
-    let mut args = [0i64; 9];
-    for at in 0..n {
-        args[at] = slots[at].cast_signed();
-    }
-    args
 }
 
 /// So many segments that slots begin with, and the slots behind them. None exactly where they begin with fewer.

@@ -2,7 +2,6 @@
 #![tactic(auto)]
 
 mod batch;
-mod class;
 mod decoder;
 mod fault;
 mod laws;
@@ -14,7 +13,6 @@ mod tests;
 mod writer;
 
 pub use batch::Batch;
-pub use class::{Class, sends_batch};
 pub use fault::{BadSlots, Full};
 pub use laws::spelling_law;
 pub use packed::Packed;

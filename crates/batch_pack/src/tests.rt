@@ -500,17 +500,3 @@ fn slots_that_are_no_segments_are_refused(rt: HostRuntime) {
 fn refuses(rt: &impl Abort, slots: &[u64]) {
     assert!(rt; parse(slots).is_err(), "at {slots:?}");
 }
-
-#[test]
-fn a_flush_alone_sends_the_batch(rt: HostRuntime) {
-    let rows = [
-        (Call::Clear { mask: 0 }, false),
-        (Call::Flush, true),
-        (Call::Finish, false),
-        (Call::GetError, false),
-        (Call::PushMatrix, false),
-    ];
-    for (call, sends) in rows {
-        assert_eq!(rt; sends_batch(&call), sends);
-    }
-}

@@ -3,15 +3,15 @@
 ghost use Rattle.std.specs.Prelude.{◌≡◌, ◌+◌, ◌*◌, ◌^◌, ◌<◌, ◌≤◌, ◌++◌, length, map, vec_capacity};
 ghost use Rattle.std.specs.Int.{from_le_bytes, w64};
 ghost use Rattle.std.specs.List.{flat_map};
-ghost use Rattle.gl_words.specs.Call.{arguments};
+ghost use Rattle.gl_words.specs.Slots.{slot_of};
 ghost use Rattle.gl_memory.specs.ClientMemory.{memory_of};
 ghost use Rattle.gl_memory.specs.Piece.{IsPiece, bytes_from, cut, cut_out};
 ghost use Rattle.batch_pack.specs.Batch.{captured};
-ghost use Rattle.batch_pack.specs.Spelling.{slot_of, slot_at, slots_for, slots_of, segment_spelling, spelling_of, HasSpelling};
+ghost use Rattle.batch_pack.specs.Spelling.{slot_at, slots_for, slots_of, segment_spelling, spelling_of, HasSpelling};
 
 use crate::spelling::{header, words_of};
 use gl_memory::{Piece, Pieces};
-use gl_words::{Call, arg_at, arg_count, in_range};
+use gl_words::{Call, arguments_of};
 
 /// Puts the spelling of a call behind the other slots, with so many slots in all.
 pub(crate) fn spell(slots: &mut Vec<u64>, call: &Call, pieces: &Pieces, bytes: &[u8], count: u64)
@@ -23,20 +23,21 @@ pub(crate) fn spell(slots: &mut Vec<u64>, call: &Call, pieces: &Pieces, bytes: &
     ensures has { HasSpelling (captured call.now pieces.now bytes.now) }
     ensures same_room { vec_capacity slots.new ≡ vec_capacity slots.old }
 {
-    in_range(call);
+    let arguments = arguments_of(call);
     slots.push_reserved(header(call, count, pieces.len()));
-    spell_arguments(slots, call);
+    spell_arguments(slots, arguments.as_slice());
     spell_pieces(slots, pieces, bytes);
 }
 
-/// Puts the arguments of a call behind the other slots.
-fn spell_arguments(slots: &mut Vec<u64>, call: &Call)
-    requires room { length slots.old.items + length (arguments call.now) ≤ vec_capacity slots.old }
-    ensures spelled { slots.new.items ≡ slots.old.items ++ map slot_of (arguments call.now) }
+/// Puts arguments behind the other slots.
+#[tactic(auto, unfolding(gl_words::specs::Slots::slot_of))]
+fn spell_arguments(slots: &mut Vec<u64>, numbers: &[i64])
+    requires room { length slots.old.items + length numbers.now ≤ vec_capacity slots.old }
+    ensures spelled { slots.new.items ≡ slots.old.items ++ map slot_of numbers.now }
     ensures same_room { vec_capacity slots.new ≡ vec_capacity slots.old }
 {
-    for at in 0..arg_count(call) {
-        slots.push_reserved(arg_at(call, at).cast_unsigned());
+    for number in numbers {
+        slots.push_reserved(number.cast_unsigned());
     }
 }
 

@@ -4,7 +4,8 @@ use Rattle.std.proofs.lemmas.Option.{none-some}
 use Rattle.gl_words.specs.Call.{arguments}
 use Rattle.gl_words.specs.declared.call.Call.{Call}
 use Rattle.gl_memory.specs.Segment.{Segment}
-use Rattle.batch_pack.specs.Spelling.{slot_of, segment_spelling}
+use Rattle.gl_words.specs.Slots.{slot_of}
+use Rattle.batch_pack.specs.Spelling.{segment_spelling}
 use Rattle.batch_pack.specs.Decoding.{id_said, slots_said, segments_said}
 use Rattle.batch_pack.proofs.Segments.{same_segments}
 use Rattle.batch_pack.proofs.Spellings.{drop-arguments}

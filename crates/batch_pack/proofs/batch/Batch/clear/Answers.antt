@@ -1,6 +1,6 @@
 use Rattle.std.proofs.Common.{ℕ, List, ◌≤◌, vec_capacity, ◌∙◌, sym, ap, subst, arith}
 use Rattle.batch_pack.specs.Spelling.{Spelled}
-use Rattle.batch_pack.specs.Batch.{Packing, empty_batch}
+use Rattle.batch_pack.specs.Batch.{BatchView, empty_batch}
 use Rattle.batch_pack.specs.Decoding.{calls_in}
 use Rattle.batch_pack.specs.Holding.{IsHolding}
 use Rattle.batch_pack.proofs.Packings.{calls_in-nil, IsHolding-nil}
@@ -14,6 +14,6 @@ invariant_of-self c =
 
 pub returns : goal.returns
 returns c =
-    ap (λ (s : List ℕ). let p : Packing = record { size = c.self.inside.size; calls = calls_in s } in p) c.clear.ensures.items
-    ∙ ap (λ (cs : List Spelled). let p : Packing = record { size = c.self.inside.size; calls = cs } in p) calls_in-nil
-    ∙ ap (λ (p : Packing). empty_batch p.size) c.self.view_is
+    ap (λ (s : List ℕ). let p : BatchView = record { size = c.self.inside.size; calls = calls_in s } in p) c.clear.ensures.items
+    ∙ ap (λ (cs : List Spelled). let p : BatchView = record { size = c.self.inside.size; calls = cs } in p) calls_in-nil
+    ∙ ap (λ (p : BatchView). empty_batch p.size) c.self.view_is

@@ -1,6 +1,6 @@
 use Rattle.std.proofs.Common.{ℕ, List, ◌≤◌, vec_capacity, ◌∙◌, sym, ap, subst}
 use Rattle.batch_pack.specs.Spelling.{Spelled}
-use Rattle.batch_pack.specs.Batch.{Packing}
+use Rattle.batch_pack.specs.Batch.{BatchView}
 use Rattle.batch_pack.specs.Decoding.{calls_in}
 use Rattle.batch_pack.specs.Holding.{IsHolding}
 use Rattle.batch_pack.proofs.Packings.{calls_in-nil, IsHolding-nil}
@@ -16,6 +16,6 @@ invariant_of-result c =
 pub returns : goal.returns
 returns c = record {
   ok =
-      ap (λ (s : List ℕ). let p : Packing = record { size = c.args.slots; calls = calls_in s } in p) c.in_ok-with_capacity.ensures.items
-      ∙ ap (λ (cs : List Spelled). let p : Packing = record { size = c.args.slots; calls = cs } in p) calls_in-nil;
+      ap (λ (s : List ℕ). let p : BatchView = record { size = c.args.slots; calls = calls_in s } in p) c.in_ok-with_capacity.ensures.items
+      ∙ ap (λ (cs : List Spelled). let p : BatchView = record { size = c.args.slots; calls = cs } in p) calls_in-nil;
 }

@@ -1,6 +1,6 @@
 use Rattle.std.proofs.Common.{ℕ, List, [], ◌∷◌, ◌++◌, ◌+◌, ◌≤◌, length, vec_capacity, ◌∙◌, sym, ap, subst, refl, arith}
 use Rattle.batch_pack.specs.Spelling.{Spelled, slots_of}
-use Rattle.batch_pack.specs.Batch.{Packing, captured, slots_left}
+use Rattle.batch_pack.specs.Batch.{BatchView, captured, slots_left}
 use Rattle.batch_pack.specs.Decoding.{calls_in}
 use Rattle.batch_pack.specs.Holding.{IsHolding}
 use Rattle.batch_pack.proofs.Packings.{slots_left-is, calls_in-packed, IsHolding-packed}
@@ -25,10 +25,10 @@ pub returns-clause-ok : goal.returns-clause-ok
 returns-clause-ok c =
     let v = c.self.inside.slots in
     let call = captured c.args.call.now c.args.pieces.now c.bytes.result.now in
-    ap (λ (s : List ℕ). let p : Packing = record { size = c.self.inside.size; calls = calls_in s } in p) c.spell.ensures.spelled
-    ∙ ap (λ (cs : List Spelled). let p : Packing = record { size = c.self.inside.size; calls = cs } in p) (calls_in-packed v.items (vec_capacity v) c.self.inside.size c.self.invariant call c.spell.ensures.has)
-    ∙ ap (λ (q : Packing). let p : Packing = record { size = q.size; calls = q.calls ++ call ∷ [] } in p) c.self.view_is
-    ∙ ap (λ (bytes : List ℕ). let p : Packing = record { size = c.args.self.now.size; calls = c.args.self.now.calls ++ captured c.args.call.now c.args.pieces.now bytes ∷ [] } in p) c.bytes.ensures.bytes
+    ap (λ (s : List ℕ). let p : BatchView = record { size = c.self.inside.size; calls = calls_in s } in p) c.spell.ensures.spelled
+    ∙ ap (λ (cs : List Spelled). let p : BatchView = record { size = c.self.inside.size; calls = cs } in p) (calls_in-packed v.items (vec_capacity v) c.self.inside.size c.self.invariant call c.spell.ensures.has)
+    ∙ ap (λ (q : BatchView). let p : BatchView = record { size = q.size; calls = q.calls ++ call ∷ [] } in p) c.self.view_is
+    ∙ ap (λ (bytes : List ℕ). let p : BatchView = record { size = c.args.self.now.size; calls = c.args.self.now.calls ++ captured c.args.call.now c.args.pieces.now bytes ∷ [] } in p) c.bytes.ensures.bytes
 
 pub returns-clause-full : goal.returns-clause-full
 returns-clause-full c =
