@@ -5,14 +5,12 @@ use Rattle.std.proofs.lemmas.Bool.Decides.{nat_tests}
 use Rattle.gl_words.specs.Call.{is_answering}
 use Rattle.gl_words.specs.declared.call.Call.{Call}
 use Rattle.gl_memory.specs.Segment.{Segment}
-use Rattle.gl_memory.specs.ClientMemory.{memory_of}
-use Rattle.batch_pack.specs.Batch.{captured}
 use Rattle.batch_pack.specs.Spelling.{slots_of}
-use Rattle.batch_pack.specs.declared.class.Class.{Class}
-use Rattle.batch_pack.specs.declared.class.Class.TheVariants.{Answer, Sync, Defer}
-use Rattle.driver_trait.specs.declared.tracked.Tracked.{Tracked}
-use Rattle.driver_trait.specs.Step.{number_asked}
-use Rattle.client_shadow.specs.Class.{class_of, captured_for, is_finish, pieces_of}
+use Rattle.client_shadow.specs.declared.class.Class.{Class}
+use Rattle.client_shadow.specs.declared.class.Class.TheVariants.{Answer, Sync, Defer}
+use Rattle.gl_tracked.specs.declared.tracked.Tracked.{Tracked}
+use Rattle.gl_tracked.specs.Step.{number_asked}
+use Rattle.client_shadow.specs.Class.{class_of, captured_for, is_finish}
 
 -- a class by the number that is asked for, and by the tests behind it
 abbrev class_by : Option ℤ → Bool → Bool → Bool → Class
@@ -26,6 +24,10 @@ module _ (tracked : Tracked) (call : Call) (memory : List Segment) (slots : ℕ)
   class_of-asked : (asked : Option ℤ) → asked ≡ number_asked tracked call → class_of tracked call memory slots ≡ class_by asked (is_answering call) (is_finish call) (nat_lt slots (slots_of (captured_for tracked call memory)))
   class_of-asked asked same =
       class_of-by ∙ ap (λ (o : Option ℤ). class_by o (is_answering call) (is_finish call) (nat_lt slots (slots_of (captured_for tracked call memory)))) (sym same)
+
+  -- a call that asks for a number is answered
+  pub class_of-number : (number : ℤ) → number_asked tracked call ≡ Some number → class_of tracked call memory slots ≡ Answer
+  class_of-number number asked = class_of-asked (Some number) (sym asked)
 
 class_by-none : (answers finishes long : Bool) → class_by None answers finishes long ≢ Answer
 class_by-none true finishes long is = cc
@@ -85,8 +87,3 @@ module _ (tracked : Tracked) (call : Call) (memory : List Segment) (slots : ℕ)
   -- and fits a batch
   pub slots_of-defer : class_of tracked call memory slots ≡ Defer → slots_of (captured_for tracked call memory) ≤ slots
   slots_of-defer is = grind (arith, nat_tests, (deferred is).short)
-
--- nothing is captured for a call yet
-pub captured_for-captured : (tracked : Tracked) (call : Call) (bytes : List ℕ) → captured_for tracked call (memory_of bytes) ≡ captured call [] bytes
-unfolding captured_for pieces_of
-captured_for-captured tracked call bytes = refl

@@ -1,1 +1,3 @@
+pub mod Batching
 pub mod Classes
+pub mod Capturing

@@ -6,12 +6,12 @@ use Rattle.gl_words.specs.declared.call.Call.TheVariants.{Finish}
 use Rattle.gl_memory.specs.Segment.{Segment}
 use Rattle.gl_memory.specs.Piece.{cut}
 use Rattle.gl_memory.specs.declared.piece.Piece.{Piece}
-use Rattle.batch_pack.specs.Cutting.{Issued}
+use Rattle.client_shadow.specs.Cutting.{Issued}
 use Rattle.batch_pack.specs.Spelling.{Spelled, slots_of}
-use Rattle.batch_pack.specs.declared.class.Class.{Class}
-use Rattle.batch_pack.specs.declared.class.Class.TheVariants.{Answer, Sync, Defer}
-use Rattle.driver_trait.specs.declared.tracked.Tracked.{Tracked}
-use Rattle.driver_trait.specs.Step.{number_asked}
+use Rattle.client_shadow.specs.declared.class.Class.{Class}
+use Rattle.client_shadow.specs.declared.class.Class.TheVariants.{Answer, Sync, Defer}
+use Rattle.gl_tracked.specs.declared.tracked.Tracked.{Tracked}
+use Rattle.gl_tracked.specs.Step.{number_asked}
 
 -- the pieces of client memory that are captured for a call: no call reads memory yet; own
 unfoldable pub pieces_of : Tracked → Call → List Segment → List Piece
@@ -26,13 +26,17 @@ abbrev pub is_finish : Call → Bool
 is_finish Finish = true
 is_finish _ = false
 
--- the class of a call, with batches of so many slots: a get of tracked state is answered; what else is answered waits, as do Finish and a call that is longer than a batch; all others are put off; own
-unfoldable pub class_of : Tracked → Call → List Segment → ℕ → Class
-class_of tracked call memory slots =
-    if is_some (number_asked tracked call) then Answer else (
+-- the class of a call that asks for no number of tracked state, whose spelling has so many slots: what is answered waits, as do Finish and a call that is longer than a batch; all others are put off; own
+abbrev pub class_unasked : Call → ℕ → ℕ → Class
+class_unasked call length slots =
     if is_answering call then Sync else (
     if is_finish call then Sync else (
-    if nat_lt slots (slots_of (captured_for tracked call memory)) then Sync else Defer)))
+    if nat_lt slots length then Sync else Defer))
+
+-- the class of a call, with batches of so many slots: a get of tracked state is answered; own
+unfoldable pub class_of : Tracked → Call → List Segment → ℕ → Class
+class_of tracked call memory slots =
+    if is_some (number_asked tracked call) then Answer else class_unasked call (slots_of (captured_for tracked call memory)) slots
 
 -- a call as it is issued: its class, and itself with what is captured for it; own
 unfoldable pub issued_at : Tracked → Call → List Segment → ℕ → Issued

@@ -3,10 +3,10 @@ use Rattle.std.specs.Prelude.{◌≡◌, List}
 use Rattle.gl_words.specs.Call.{IsInRange}
 use Rattle.gl_words.specs.declared.call.Call.{Call}
 use Rattle.gl_memory.specs.Segment.{Segment, AreBytes}
-use Rattle.driver_trait.specs.declared.tracked.Tracked.{Tracked}
+use Rattle.gl_tracked.specs.declared.tracked.Tracked.{Tracked}
 use Rattle.driver_trait.specs.Driver.{Steps}
 use Rattle.driver_trait.specs.Reply.{Replied}
-use Rattle.driver_trait.specs.Step.{tracked_after}
+use Rattle.gl_tracked.specs.Step.{tracked_after}
 
 -- a shadow that is the tracked part of a driver before a call is that after it, once it noted the call; own
 abbrev pub ShadowFollows : {S : Type 0} → (S → Tracked) → Steps S → Type 0

@@ -1,5 +1,8 @@
+pub mod Flush
+pub mod Cutting
 pub mod Class
+pub mod Look
 pub mod Law
-pub use Rattle.driver_trait.specs.Step
-pub use Rattle.driver_trait.specs.Tracked
-pub use Rattle.batch_pack.specs.Cutting
+pub use Rattle.gl_tracked.specs.Fault
+pub use Rattle.gl_tracked.specs.Step
+pub use Rattle.gl_tracked.specs.Tracked

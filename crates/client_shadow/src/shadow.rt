@@ -1,17 +1,23 @@
 //! The tracked state of a context, as the layer knows it. It never sees a driver, and takes no memory.
 
-ghost use Rattle.std.specs.Prelude.{◌≡◌, ◌≢◌, ◌↔◌, ℕ, List, IsNone};
+ghost use Rattle.std.specs.Prelude.{◌≡◌, ◌≢◌, ◌↔◌, if◌then◌else◌, ℕ, List, None, IsNone};
 ghost use Rattle.gl_memory.specs.Segment.{Segment};
 ghost use Rattle.gl_memory.specs.ClientMemory.{memory_of};
-ghost use Rattle.batch_pack.specs.declared.class.Class.TheVariants.{Answer};
-ghost use Rattle.driver_trait.specs.Step.{number_asked, tracked_after};
-ghost use Rattle.driver_trait.specs.Tracked.{first_tracked, IsSound};
-ghost use Rattle.client_shadow.specs.Class.{class_of, is_finish, pieces_of, captured_for};
+ghost use Rattle.gl_tracked.specs.Fault.{fault_of};
+ghost use Rattle.gl_tracked.specs.Step.{number_asked, tracked_after};
+ghost use Rattle.gl_tracked.specs.Tracked.{first_tracked, IsSound};
+ghost use Rattle.batch_pack.specs.Batch.{captured};
+ghost use Rattle.batch_pack.specs.Spelling.{slots_of};
+ghost use Rattle.client_shadow.specs.declared.class.Class.TheVariants.{Answer, Sync, Defer};
+ghost use Rattle.client_shadow.specs.Class.{class_of, class_unasked, is_finish, pieces_of};
+ghost use Rattle.client_shadow.specs.Look.{Captures, class_in, number_in};
 
-use batch_pack::{Class, spelling_slots};
-use driver_trait::Tracked;
+use crate::class::Class;
+use crate::look::{Becomes, Look};
+use batch_pack::spelling_slots;
 use gl_memory::{ClientMemory, Pieces};
-use gl_words::{Call, is_answering};
+use gl_tracked::Tracked;
+use gl_words::{Call, GlError, is_answering};
 use std::marker::Model;
 
 /// Tracked state; own. Contracts see it.
@@ -21,8 +27,8 @@ pub struct Shadow {
 }
 
 impl Model for Shadow {
-    ghost use Rattle.driver_trait.specs.declared.tracked.Tracked.{Tracked};
-    ghost use Rattle.driver_trait.specs.Tracked.{IsSound};
+    ghost use Rattle.gl_tracked.specs.declared.tracked.Tracked.{Tracked};
+    ghost use Rattle.gl_tracked.specs.Tracked.{IsSound};
 
     ghost Value = { Tracked };
 
@@ -41,7 +47,7 @@ impl Shadow {
         }
     }
 
-    /// What it knows.
+    /// What it knows; own.
     pub fn tracked(&self) -> &Tracked
         ensures tracked { result.now ≡ self.now }
         ensures sound { IsSound self.now }
@@ -50,10 +56,41 @@ impl Shadow {
     }
 
     /// Takes the step of a call on client memory. A call with an error changes nothing (section 2.5).
-    pub fn note(&mut self, call: &Call, memory: &ClientMemory)
+    pub fn note(&mut self, call: &Call, memory: &ClientMemory, fault: Option<GlError>)
+        requires fault { fault ≡ fault_of self.old call.now }
         ensures { self.new ≡ tracked_after self.old call.now (memory_of memory.now) }
     {
-        self.tracked.note(call, memory);
+        self.tracked.note(call, memory, fault);
+    }
+
+    /// Looks at a call on client memory, with batches of so many slots: all that the layer needs to know of it; own.
+    #[tactic(auto, unfolding(crate::specs::Class::class_of, crate::specs::Class::captured_for))]
+    pub fn look(&self, call: &Call, memory: &ClientMemory, slots: u32) -> Look
+        ensures class { class_in result.becomes
+            ≡ class_of self.now call.now (memory_of memory.now) slots }
+        ensures number { number_in result.becomes ≡ number_asked self.now call.now }
+        ensures pieces { Captures result.becomes
+            (pieces_of self.now call.now (memory_of memory.now)) }
+        ensures fault { result.fault ≡ fault_of self.now call.now }
+    {
+        if let Some(number) = self.tracked.asked(call) {
+            return Look {
+                becomes: Becomes::Answer(number),
+                fault: None,
+            };
+        }
+        let fault = self.tracked.fault(call);
+        let pieces = pieces(&self.tracked, call, memory);
+        if waits(call, &pieces, slots) {
+            return Look {
+                becomes: Becomes::Sync,
+                fault,
+            };
+        }
+        Look {
+            becomes: Becomes::Defer(pieces),
+            fault,
+        }
     }
 
     /// The number that a call asks for (section 6.1). None exactly where its class isn't Answer.
@@ -66,20 +103,28 @@ impl Shadow {
     }
 
     /// The class of a call, with batches of so many slots; own, after Mesa.
-    #[tactic(auto, unfolding(crate::specs::Class::class_of, crate::specs::Class::captured_for, crate::specs::Class::pieces_of))]
     pub fn class(&self, call: &Call, memory: &ClientMemory, slots: u32) -> Class
         ensures { result ≡ class_of self.now call.now (memory_of memory.now) slots }
     {
-        if self.tracked.asked(call).is_some() {
-            Class::Answer
-        } else if is_answering(call) || is_finish(call) {
-            Class::Sync
-        } else if u64::from(slots) < spelling_slots(call, &Pieces::new()) {
-            Class::Sync
-        } else {
-            Class::Defer
-        }
+        self.look(call, memory, slots).becomes.class()
     }
+}
+
+/// The pieces of client memory that are captured for a call: no call reads memory yet.
+#[tactic(auto, unfolding(crate::specs::Class::pieces_of))]
+fn pieces(_tracked: &Tracked, _call: &Call, _memory: &ClientMemory) -> Pieces
+    ensures { result ≡ pieces_of _tracked.now _call.now (memory_of _memory.now) }
+{
+    Pieces::new()
+}
+
+/// Whether a call that asks for no number of tracked state waits, with these pieces of client memory.
+fn waits(call: &Call, pieces: &Pieces, slots: u32) -> bool
+    ensures { (bytes : List ℕ)
+        → class_unasked call.now (slots_of (captured call.now pieces.now bytes)) slots
+        ≡ (if result then Sync else Defer) }
+{
+    is_answering(call) || is_finish(call) || u64::from(slots) < spelling_slots(call, pieces)
 }
 
 /// Whether a call is Finish (section 5.1).

@@ -1,0 +1,51 @@
+-- What is captured for a call that is put off is what it reads.
+use Rattle.std.proofs.Common.{◌≡◌, ℕ, ◌<◌, inl, inr, List, length, get_or, sym, ap, subst, ◌∙◌, arith}
+use Rattle.std.specs.List.{All, range_with_len}
+use Rattle.std.proofs.lemmas.Bool.{cases_lt}
+use Rattle.std.proofs.lemmas.List.{get_or_past}
+use Rattle.std.proofs.lemmas.List.Elements.{All-map}
+use Rattle.gl_words.specs.declared.call.Call.{Call}
+use Rattle.gl_memory.specs.Piece.{bytes_from, cut, cut_out}
+use Rattle.gl_memory.specs.Segment.{Segment, byte_at, AreBytes}
+use Rattle.gl_memory.specs.ClientMemory.{memory_of}
+use Rattle.gl_memory.specs.declared.piece.Piece.{Piece}
+use Rattle.gl_memory.proofs.Bytes.{byte_at-memory_of}
+use Rattle.gl_tracked.specs.declared.tracked.Tracked.{Tracked}
+use Rattle.gl_tracked.specs.Reads.{AgreesOn}
+use Rattle.gl_tracked.specs.Step.{reads_of}
+use Rattle.gl_tracked.proofs.Stepping.{AgreesOn-none}
+use Rattle.batch_pack.specs.Batch.{captured}
+use Rattle.client_shadow.specs.declared.class.Class.TheVariants.{Defer}
+use Rattle.client_shadow.specs.Class.{class_of, captured_for, pieces_of}
+
+-- memory and what is captured of it agree where the call reads: no call reads memory yet
+pub captured_agrees : (tracked : Tracked) (call : Call) (memory : List Segment) (slots : ℕ) → class_of tracked call memory slots ≡ Defer
+    → AgreesOn memory (cut (pieces_of tracked call memory) memory) (reads_of tracked call memory)
+captured_agrees tracked call memory slots class = AgreesOn-none tracked call memory memory (cut (pieces_of tracked call memory) memory)
+
+-- a call with these pieces, as a batch packs it, is the call with what is captured for it
+pub captured-captured_for : (tracked : Tracked) (call : Call) (pieces : List Piece) (bytes : List ℕ) → pieces ≡ pieces_of tracked call (memory_of bytes)
+    → captured call pieces bytes ≡ captured_for tracked call (memory_of bytes)
+unfolding captured_for
+captured-captured_for tracked call pieces bytes are = ap (λ (l : List Piece). captured call l bytes) are
+
+byte-small : (bytes : List ℕ) → AreBytes (memory_of bytes) → (place : ℕ) → byte_at (memory_of bytes) place < 256
+byte-small bytes small place =
+    let P : ℕ → Type 0 = λ n. n < 256 in
+    elim (cases_lt place (length bytes)) [
+      | inl within ↦ subst P (sym (byte_at-memory_of bytes place)) (small 0 (record { start = 0; bytes = bytes }) (omega arith) place 0 within)
+      | inr past ↦ subst P (sym (byte_at-memory_of bytes place ∙ get_or_past bytes place 0 past)) (omega arith)
+    ]
+
+cut_out-small : (bytes : List ℕ) (piece : Piece) → AreBytes (memory_of bytes) → All (λ byte. byte < 256) (cut_out (memory_of bytes) piece).bytes
+unfolding cut_out bytes_from
+cut_out-small bytes piece small =
+    All-map (λ byte. byte < 256) (byte_at (memory_of bytes)) (range_with_len piece.start piece.len)
+    (λ number other within. byte-small bytes small (get_or (range_with_len piece.start piece.len) number other))
+
+-- what is captured of bytes is bytes
+pub AreBytes-cut : (pieces : List Piece) (bytes : List ℕ) → AreBytes (memory_of bytes) → AreBytes (cut pieces (memory_of bytes))
+unfolding cut
+AreBytes-cut pieces bytes small =
+    All-map (λ (segment : Segment). All (λ byte. byte < 256) segment.bytes) (cut_out (memory_of bytes)) pieces
+    (λ number other within. cut_out-small bytes (get_or pieces number other) small)

@@ -1,0 +1,39 @@
+//! What the layer finds when it looks at a call, once for all that is done with it.
+
+ghost use Rattle.std.specs.Prelude.{◌≡◌};
+ghost use Rattle.client_shadow.specs.Look.{class_in};
+
+use crate::class::Class;
+use gl_memory::Pieces;
+use gl_words::GlError;
+
+/// What becomes of a call when it is issued; own.
+#[derive(Drop)]
+pub enum Becomes {
+    /// It is answered at once, with this number.
+    Answer(i64),
+    /// All calls before it are carried out first, and then it.
+    Sync,
+    /// It is put into a batch with these pieces of client memory, and carried out later.
+    Defer(Pieces),
+}
+
+impl Becomes {
+    /// The class of a call of which this becomes; own.
+    pub fn class(&self) -> Class
+        ensures { result ≡ class_in self.now }
+    {
+        match self {
+            Becomes::Answer(_) => Class::Answer,
+            Becomes::Sync => Class::Sync,
+            Becomes::Defer(_) => Class::Defer,
+        }
+    }
+}
+
+/// What becomes of a call, and its error (section 2.5); own.
+#[derive(Drop)]
+pub struct Look {
+    pub becomes: Becomes,
+    pub fault: Option<GlError>,
+}
