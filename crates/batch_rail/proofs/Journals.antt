@@ -5,20 +5,20 @@ use Rattle.std.proofs.lemmas.List.Sums.{sum_by_push}
 use Rattle.std.proofs.lemmas.Bool.Decides.{nat_tests}
 use Rattle.batch_pack.specs.Spelling.{Spelled}
 use Rattle.batch_pack.specs.Batch.{slots_used}
-use Rattle.batch_rail.specs.Rail.{Told}
+use Rattle.batch_rail.specs.Rail.{Gains}
 use Rattle.batch_rail.specs.Journal.{slots_in, told_within, told_with}
 
 -- what is told stays told
-pub Told-none : (told : Option (List (List Spelled))) (more : List (List Spelled)) → more ≡ [] → Told told told more
-Told-none told more none now is = (now, is, sym (append-nil now) ∙ ap (λ (x : List (List Spelled)). now ++ x) (sym none))
+pub Gains-none : (told : Option (List (List Spelled))) (more : List (List Spelled)) → more ≡ [] → Gains told told more
+Gains-none told more none now is = (now, is, sym (append-nil now) ∙ ap (λ (x : List (List Spelled)). now ++ x) (sym none))
 
 -- the same batches, said in two ways
-pub Told-along : (old new : Option (List (List Spelled))) (one other : List (List Spelled)) → one ≡ other → Told old new one → Told old new other
-Told-along old new one other same gained = subst (λ (more : List (List Spelled)). Told old new more) same gained
+pub Gains-along : (old new : Option (List (List Spelled))) (one other : List (List Spelled)) → one ≡ other → Gains old new one → Gains old new other
+Gains-along old new one other same gained = subst (λ (more : List (List Spelled)). Gains old new more) same gained
 
 -- what is gained in two steps is gained in both together
-pub Told-then : (old mid new : Option (List (List Spelled))) (first second : List (List Spelled)) → Told old mid first → Told mid new second → Told old new (first ++ second)
-Told-then old mid new first second gained later now is =
+pub Gains-then : (old mid new : Option (List (List Spelled))) (first second : List (List Spelled)) → Gains old mid first → Gains mid new second → Gains old new (first ++ second)
+Gains-then old mid new first second gained later now is =
     let l = later now is in
     let g = gained (l.0) (l.1) in
     (g.0, g.1, l.2 ∙ ap (λ (x : List (List Spelled)). x ++ second) (g.2) ∙ append_assoc (g.0) first second)
@@ -35,9 +35,9 @@ told_within-some room batches now is =
     elim (nat_le (slots_in batches) room) as (λ t. cond t (Some batches) None ≡ Some now → now ≡ batches) [ true ↦ λ same. (cc) | false ↦ λ none. (cc) ] is
 
 -- what is told with a batch has gained it
-pub Told-told_with : (room : ℕ) (old new : Option (List (List Spelled))) (batch : List Spelled) → new ≡ told_with room old batch → Told old new (batch ∷ [])
-Told-told_with room None new batch told now is = absurd (cc)
-Told-told_with room (Some batches) new batch told now is = (batches, refl, told_within-some room (batches ++ batch ∷ []) now (sym told ∙ is))
+pub Gains-told_with : (room : ℕ) (old new : Option (List (List Spelled))) (batch : List Spelled) → new ≡ told_with room old batch → Gains old new (batch ∷ [])
+Gains-told_with room None new batch told now is = absurd (cc)
+Gains-told_with room (Some batches) new batch told now is = (batches, refl, told_within-some room (batches ++ batch ∷ []) now (sym told ∙ is))
 
 -- at first no batches are told
 pub told_within-nil : (room : ℕ) → told_within room [] ≡ Some []

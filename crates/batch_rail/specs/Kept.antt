@@ -11,9 +11,9 @@ counts_of [] behind = replicate behind 0
 counts_of (stretch ∷ stretches) behind = replicate stretch.empty 0 ++ stretch.slots ∷ counts_of stretches behind
 
 -- how many slots each batch has, where so many without slots come first; own
-abbrev pub counts_after : ℕ → List Stretch → ℕ → List ℕ
-counts_after first [] behind = replicate first 0
-counts_after first (stretch ∷ stretches) behind = replicate first 0 ++ stretch.slots ∷ counts_of stretches behind
+abbrev pub slots_after : ℕ → List Stretch → ℕ → List ℕ
+slots_after first [] behind = replicate first 0
+slots_after first (stretch ∷ stretches) behind = replicate first 0 ++ stretch.slots ∷ counts_of stretches behind
 
 -- the batches of slots, each of so many, one after another; own
 unfoldable pub batches_in : List ℕ → List ℕ → List (List Spelled)

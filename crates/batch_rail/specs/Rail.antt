@@ -3,8 +3,8 @@ use Rattle.std.specs.Prelude.{◌≡◌, ◌++◌, Bool, false, Option, Some, Li
 use Rattle.batch_pack.specs.Spelling.{Spelled}
 
 -- a list of batches that is told now was told before, and has gained these; own
-abbrev pub Told : Option (List (List Spelled)) → Option (List (List Spelled)) → List (List Spelled) → Type 0
-Told old new more = (now : List (List Spelled)) → new ≡ Some now → (before : List (List Spelled)) × (old ≡ Some before) × (now ≡ before ++ more)
+abbrev pub Gains : Option (List (List Spelled)) → Option (List (List Spelled)) → List (List Spelled) → Type 0
+Gains old new more = (now : List (List Spelled)) → new ≡ Some now → (before : List (List Spelled)) × (old ≡ Some before) × (now ≡ before ++ more)
 
 -- every state for which the new one may stand is one for which the old one may; own
 abbrev pub StandsForNoMore : {S : Type 0} → (S → Type 0) → (S → Type 0) → Type 0

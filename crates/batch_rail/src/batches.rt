@@ -2,7 +2,7 @@
 
 ghost use Rattle.std.specs.Prelude.{◌≡◌, [], MatchOption, IfNone};
 ghost use Rattle.batch_rail.specs.Journal.{TakesFirst};
-ghost use Rattle.batch_rail.specs.Kept.{AreBatches, batches_in, counts_of, counts_after};
+ghost use Rattle.batch_rail.specs.Kept.{AreBatches, batches_in, counts_of, slots_after};
 
 use crate::stretch::Stretch;
 use std::marker::Model;
@@ -19,13 +19,13 @@ pub struct Batches<'a> {
 impl<'a> Model for Batches<'a> {
     ghost use Rattle.std.specs.Prelude.{List};
     ghost use Rattle.batch_pack.specs.Spelling.{Spelled};
-    ghost use Rattle.batch_rail.specs.Kept.{AreBatches, batches_in, counts_after};
+    ghost use Rattle.batch_rail.specs.Kept.{AreBatches, batches_in, slots_after};
 
     ghost Value = { List (List Spelled) };
 
-    ghost view = { λ b. batches_in b.slots.now (counts_after b.empty b.stretches.now b.behind) };
+    ghost view = { λ b. batches_in b.slots.now (slots_after b.empty b.stretches.now b.behind) };
 
-    ghost invariant = { λ b. AreBatches b.slots.now (counts_after b.empty b.stretches.now b.behind) };
+    ghost invariant = { λ b. AreBatches b.slots.now (slots_after b.empty b.stretches.now b.behind) };
 }
 
 impl<'a> Batches<'a> {
@@ -63,7 +63,7 @@ impl<'a> Batches<'a> {
 
 /// How many batches without slots come first.
 fn first_empty(stretches: &[Stretch], behind: u64) -> u64
-    ensures { counts_after result stretches.now behind ≡ counts_of stretches.now behind }
+    ensures { slots_after result stretches.now behind ≡ counts_of stretches.now behind }
 {
     match stretches.first() {
         Some(stretch) => stretch.empty,

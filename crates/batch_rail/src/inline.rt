@@ -1,12 +1,12 @@
 //! A rail that carries out each batch in `submit`, and its maker. Neither starts a thread.
 
-ghost use Rattle.std.specs.Prelude.{◌≡◌, ◌≢◌, ℕ, ◌+◌, ◌^◌, ◌<◌, ◌⊎◌, List, [], ◌∷◌, Option, Some, None, IsSome, IsNone, true, false, IfOk, IfErr, OnErr};
+ghost use Rattle.std.specs.Prelude.{◌≡◌, ◌≢◌, ℕ, ◌+◌, ◌^◌, ◌<◌, ◌⊎◌, List, [], ◌∷◌, Option, Some, None, IsSome, IsNone, IsOk, true, false, IfOk, IfErr, OnErr};
 ghost use Rattle.std.specs.Thread.{IsSync};
 ghost use Rattle.batch_pack.specs.Batch.{IsBatchSize, empty_batch};
 ghost use Rattle.batch_rail.specs.declared.maker.RailKind.TheVariants.{Inline};
 ghost use Rattle.batch_rail.specs.Run.{RunsFrom, StopsOnce};
-ghost use Rattle.batch_rail.specs.Rail.{HasDriver, Told, StandsForNoMore};
-ghost use Rattle.batch_rail.specs.Maker.{IsRingLength, KeepsOthers, IsLaunched};
+ghost use Rattle.batch_rail.specs.Rail.{HasDriver, Gains, StandsForNoMore};
+ghost use Rattle.batch_rail.specs.Maker.{IsRingLength, KeepsOthers, IsLaunched, IsUnused};
 
 use crate::maker::{RailKind, RailMaker};
 use crate::rail::{Rail, RailState};
@@ -141,7 +141,18 @@ impl<D: Driver> RailMaker<D> for InlineMaker {
         driver: D,
         slots: u32,
         ring: u32,
-    ) -> Result<InlineRail<D>, (D, NoMemory)> {
+    ) -> Result<InlineRail<D>, (D, NoMemory)>
+        requires context { context < 4 }
+        requires slots { IsBatchSize slots }
+        requires ring { IsRingLength ring }
+        ensures ok { IfOk result (λ rail. IsLaunched D.tracked
+            (HasDriver rail.failed rail.driver) (rail.failed ≡ true) (IsSome rail.driver)
+            rail.slots (D.tracked driver)) }
+        ensures unused { IfOk result (λ rail. IsUnused (HasDriver rail.failed rail.driver)
+            rail.slots rail.sent driver slots) }
+        // it takes no memory
+        ensures granted { IsOk result }
+    {
         Ok(InlineRail {
             driver: Some(driver),
             failed: false,

@@ -23,10 +23,10 @@ pub(crate) struct Journal {
 
 impl Model for Journal {
     ghost use Rattle.std.specs.Prelude.{if◌then◌else◌, vec_capacity, Some, None};
-    ghost use Rattle.batch_rail.specs.Journal.{Journaled};
+    ghost use Rattle.batch_rail.specs.Journal.{JournalView};
     ghost use Rattle.batch_rail.specs.Kept.{IsKept, batches_in, counts_of};
 
-    ghost Value = { Journaled };
+    ghost Value = { JournalView };
 
     ghost view = { λ j. record {
       told = if j.whole then Some (batches_in j.slots.items (counts_of j.stretches.items j.empty)) else None;

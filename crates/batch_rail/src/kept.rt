@@ -1,11 +1,11 @@
 //! A rail without threads that keeps what was submitted to it, and its maker.
 
-ghost use Rattle.std.specs.Prelude.{◌≡◌, ◌≢◌, ℕ, ◌+◌, ◌-◌, ◌^◌, ◌<◌, ◌≤◌, ◌⊎◌, [], ◌∷◌, Option, Some, None, IsSome, IsNone, true, IfOk, IfErr, OnErr, OnOk};
+ghost use Rattle.std.specs.Prelude.{◌≡◌, ◌≢◌, ◌↔◌, ℕ, ◌+◌, ◌-◌, ◌^◌, ◌<◌, ◌≤◌, ◌⊎◌, [], ◌∷◌, Option, Some, None, IsSome, IsNone, IsErr, true, IfOk, IfErr, OnErr, OnOk};
 ghost use Rattle.std.specs.Thread.{IsSync};
 ghost use Rattle.batch_pack.specs.Batch.{IsBatchSize, empty_batch};
 ghost use Rattle.batch_rail.specs.Run.{RunsFrom, StopsOnce};
-ghost use Rattle.batch_rail.specs.Rail.{HasDriver, Told, StandsForNoMore};
-ghost use Rattle.batch_rail.specs.Maker.{IsRingLength, IsLaunched};
+ghost use Rattle.batch_rail.specs.Rail.{HasDriver, Gains, StandsForNoMore};
+ghost use Rattle.batch_rail.specs.Maker.{IsRingLength, IsLaunched, IsUnused};
 ghost use Rattle.batch_rail.specs.Journal.{SameOthers, empty_by, journal_at, new_journal, room_by, told_by, told_with};
 
 use crate::batches::Batches;
@@ -32,9 +32,9 @@ pub struct JournalRail<D> {
 
 impl<D> Model for JournalRail<D> {
     ghost use Rattle.std.specs.Prelude.{◌+◌, ◌^◌, ◌≤◌};
-    ghost use Rattle.batch_rail.specs.Journal.{Railing, empty_by};
+    ghost use Rattle.batch_rail.specs.Journal.{RailView, empty_by};
 
-    ghost Value = { Railing D };
+    ghost Value = { RailView D };
 
     ghost view = { λ r. record {
       driver = r.rail.driver;
@@ -76,12 +76,13 @@ impl<D: Driver> Rail<D> for JournalRail<D> {
         ensures home { IsSome self.new.driver }
         ensures size { self.new.slots ≡ self.old.slots }
         ensures sent { self.new.sent ≡ self.old.sent + 1 }
-        ensures journal { Told (told_by self.old.journal) (told_by self.new.journal)
+        ensures journal { Gains (told_by self.old.journal) (told_by self.new.journal)
             (full.calls ∷ []) }
         // the batch is told behind the others, while all of them have room
         ensures kept { told_by self.new.journal
             ≡ told_with (room_by self.old.journal) (told_by self.old.journal) full.calls }
         ensures same_room { room_by self.new.journal ≡ room_by self.old.journal }
+        ensures few_empty { empty_by self.new.journal ≤ empty_by self.old.journal + 1 }
         // after a refusal no call is carried out: neither in this batch nor in a later one
         ensures idle { self.old.failed ≡ true
             → (self.new.failed ≡ true) × (self.new.driver ≡ self.old.driver) }
@@ -151,9 +152,9 @@ pub struct JournalMaker {
 }
 
 impl Model for JournalMaker {
-    ghost use Rattle.batch_rail.specs.Journal.{Making};
+    ghost use Rattle.batch_rail.specs.Journal.{MakerView};
 
-    ghost Value = { Making };
+    ghost Value = { MakerView };
 
     ghost view = { λ m. record { kind = m.kind; journals = m.journals } };
 }
@@ -211,9 +212,16 @@ impl<D: Driver> RailMaker<D> for JournalMaker {
         requires context { context < 4 }
         requires slots { IsBatchSize slots }
         requires ring { IsRingLength ring }
-        ensures ok { IfOk result (λ rail. IsLaunched (HasDriver rail.failed rail.driver)
-            (rail.failed ≡ true) (IsSome rail.driver) rail.slots rail.sent driver slots) }
+        ensures ok { IfOk result (λ rail. IsLaunched D.tracked
+            (HasDriver rail.failed rail.driver) (rail.failed ≡ true) (IsSome rail.driver)
+            rail.slots (D.tracked driver)) }
+        ensures unused { IfOk result (λ rail. IsUnused (HasDriver rail.failed rail.driver)
+            rail.slots rail.sent driver slots) }
+        // refused exactly where more than 2^63 of the context's last batches have no slots
+        ensures refused { IsErr result
+            ↔ (2 ^ 63 < empty_by (journal_at self.old.journals context)) }
         ensures told { IfOk result (λ rail. rail.journal ≡ journal_at self.old.journals context) }
+        // a context isn't told while its rail is out
         ensures out { OnOk result (journal_at self.new.journals context ≡ None) }
         ensures err { IfErr result (λ refusal. refusal.0 ≡ driver) }
         ensures refused_told { OnErr result (journal_at self.new.journals context

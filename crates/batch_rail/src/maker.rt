@@ -1,11 +1,11 @@
 //! What makes rails, and takes them back.
 
-ghost use Rattle.std.specs.Prelude.{◌≡◌, ℕ, ◌<◌, List, [], Option, None, IfOk, IfErr, OnOk, OnErr};
+ghost use Rattle.std.specs.Prelude.{◌≡◌, ℕ, ◌<◌, List, [], Option, IfOk, IfErr, OnErr};
 ghost use Rattle.batch_pack.specs.Spelling.{Spelled};
 ghost use Rattle.batch_pack.specs.Batch.{IsBatchSize};
 ghost use Rattle.batch_rail.specs.declared.maker.RailKind.{RailKind};
-ghost use Rattle.batch_rail.specs.Rail.{Told};
-ghost use Rattle.batch_rail.specs.Maker.{IsRingLength, KeepsOthers, IsLaunched};
+ghost use Rattle.batch_rail.specs.Rail.{Gains};
+ghost use Rattle.batch_rail.specs.Maker.{IsRingLength, KeepsOthers, IsLaunched, IsUnused};
 
 use crate::rail::Rail;
 use driver_trait::Driver;
@@ -37,8 +37,9 @@ pub trait RailMaker<D: Driver>: Drop {
     fn kind(&self) -> RailKind
         ensures { result ≡ kind_of self.now };
 
-    /// A rail that stands for this driver. Batches have 16 to 8192 slots of eight bytes, a ring has 1 to
-    /// 64 batches. Want of memory gives the driver back. A context with a rail that is out isn't told.
+    /// A rail that stands for this driver, as a front takes it where the driver is one of a new context. Batches have 16
+    /// to 8192 slots of eight bytes, a ring has 1 to 64 batches. Want of memory gives the driver back. No clause says
+    /// whether a context is told while its rail is out.
     fn launch(
         &mut self,
         alloc: Global,
@@ -50,14 +51,16 @@ pub trait RailMaker<D: Driver>: Drop {
         requires context { context < 4 }
         requires slots { IsBatchSize slots }
         requires ring { IsRingLength ring }
-        ensures ok { IfOk result (λ rail. IsLaunched (Self.Made.stands rail) (Self.Made.failed rail)
-            (Self.Made.home rail) (Self.Made.size rail) (Self.Made.sent rail) driver slots) }
+        ensures ok { IfOk result (λ rail. IsLaunched D.tracked (Self.Made.stands rail)
+            (Self.Made.failed rail) (Self.Made.home rail) (Self.Made.size rail)
+            (D.tracked driver)) }
+        ensures unused { IfOk result (λ rail. IsUnused (Self.Made.stands rail)
+            (Self.Made.size rail) (Self.Made.sent rail) driver slots) }
         ensures told { IfOk result
-            (λ rail. Told (Self.journal self.old context) (Self.Made.journal rail) []) }
-        ensures out { OnOk result (Self.journal self.new context ≡ None) }
+            (λ rail. Gains (Self.journal self.old context) (Self.Made.journal rail) []) }
         ensures err { IfErr result (λ refusal. refusal.0 ≡ driver) }
         ensures refused_told { OnErr result
-            (Told (Self.journal self.old context) (Self.journal self.new context) []) }
+            (Gains (Self.journal self.old context) (Self.journal self.new context) []) }
         ensures others { KeepsOthers (Self.journal self.old) (Self.journal self.new) context };
 
     /// Takes a rail back and gives its driver. Refused only where the rail failed.
@@ -66,6 +69,6 @@ pub trait RailMaker<D: Driver>: Drop {
         requires home { Self.Made.home rail }
         ensures ok { IfOk result (λ driver. Self.Made.stands rail driver) }
         ensures err { OnErr result (Self.Made.failed rail) }
-        ensures told { Told (Self.Made.journal rail) (Self.journal self.new context) [] }
+        ensures told { Gains (Self.Made.journal rail) (Self.journal self.new context) [] }
         ensures others { KeepsOthers (Self.journal self.old) (Self.journal self.new) context };
 }

@@ -5,7 +5,7 @@ ghost use Rattle.std.specs.Thread.{IsSync};
 ghost use Rattle.batch_pack.specs.Spelling.{Spelled};
 ghost use Rattle.batch_pack.specs.Batch.{empty_batch};
 ghost use Rattle.batch_rail.specs.Run.{RunsFrom};
-ghost use Rattle.batch_rail.specs.Rail.{Told, StandsForNoMore};
+ghost use Rattle.batch_rail.specs.Rail.{Gains, StandsForNoMore};
 
 use batch_pack::Batch;
 use driver_trait::{Driver, Machine};
@@ -51,7 +51,7 @@ pub trait Rail<D: Driver>: RailState<D> {
         ensures home { Self.home self.new }
         ensures size { Self.size self.new ≡ Self.size self.old }
         ensures sent { Self.sent self.new ≡ Self.sent self.old + 1 }
-        ensures journal { Told (Self.journal self.old) (Self.journal self.new) (full.calls ∷ []) };
+        ensures journal { Gains (Self.journal self.old) (Self.journal self.new) (full.calls ∷ []) };
 
     /// Takes the driver, all batches carried out. Refused only where one of them failed.
     fn take(&mut self) -> Result<D, NoMemory>
@@ -63,7 +63,7 @@ pub trait Rail<D: Driver>: RailState<D> {
             (StandsForNoMore (Self.stands self.old) (Self.stands self.new)) }
         ensures size { Self.size self.new ≡ Self.size self.old }
         ensures sent { Self.sent self.new ≡ Self.sent self.old }
-        ensures journal { Told (Self.journal self.old) (Self.journal self.new) [] };
+        ensures journal { Gains (Self.journal self.old) (Self.journal self.new) [] };
 
     /// Gives the driver back.
     fn put(&mut self, driver: D)
@@ -73,7 +73,7 @@ pub trait Rail<D: Driver>: RailState<D> {
         ensures home { Self.home self.new }
         ensures size { Self.size self.new ≡ Self.size self.old }
         ensures sent { Self.sent self.new ≡ Self.sent self.old }
-        ensures journal { Told (Self.journal self.old) (Self.journal self.new) [] };
+        ensures journal { Gains (Self.journal self.old) (Self.journal self.new) [] };
 
     /// The size of its batches, in slots.
     fn slots(&self) -> u32

@@ -1,10 +1,12 @@
 //! Each public call once, over the driver that keeps the calls it met.
 
 ghost use Rattle.std.specs.Prelude.{◌≡◌, ◌<◌, IfOk};
+ghost use Rattle.gl_tracked.specs.Tracked.{first_tracked};
+ghost use Rattle.batch_rail.specs.Maker.{IsLaunched};
 
 use super::*;
 use batch_pack::Batch;
-use driver_trait::Recorder;
+use driver_trait::{Driver, Recorder};
 use gl_memory::{ClientMemory, Pieces};
 use gl_words::Call;
 use std::alloc::{AllocError, AllocError as NoMemory, Global};
@@ -20,10 +22,32 @@ fn rail_of_sixteen<M: RailMaker<Recorder>>(
     ensures new { IfOk result
         (λ rail. (M.Made.home rail) × (M.Made.size rail ≡ 16) × (M.Made.sent rail ≡ 0)) }
 {
-    let Ok(rail) = maker.launch(alloc, 3, Recorder::new(alloc), 16, 4) else {
+    rail_over(alloc, maker, Recorder::new(alloc))
+}
+
+/// Takes a rail as a front does: no author of a driver or a maker proves more than that the driver is one of a new context.
+fn taken<D: Driver, R: Rail<D>>(rail: R) -> R
+    requires launched { IsLaunched D.tracked (R.stands rail) (R.failed rail) (R.home rail)
+        (R.size rail) first_tracked }
+    ensures { result ≡ rail }
+{
+    rail
+}
+
+/// A rail over any driver of a new context, as a front takes it.
+fn rail_over<D: Driver, M: RailMaker<D>>(
+    alloc: Global,
+    maker: &mut M,
+    driver: D,
+) -> Result<M::Made, NoMemory>
+    requires first { D.tracked driver ≡ first_tracked }
+    ensures new { IfOk result
+        (λ rail. (M.Made.home rail) × (M.Made.size rail ≡ 16) × (M.Made.sent rail ≡ 0)) }
+{
+    let Ok(rail) = maker.launch(alloc, 3, driver, 16, 4) else {
         return Err(AllocError);
     };
-    Ok(rail)
+    Ok(taken(rail))
 }
 
 /// Submits each call in a batch of its own and an empty one between, and gives the recorder and how many there were.

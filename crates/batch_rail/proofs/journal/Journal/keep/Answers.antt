@@ -1,5 +1,5 @@
 use Rattle.std.proofs.Common.{rules, length, ◌∙◌, ap, arith, length-append}
-use Rattle.batch_rail.specs.Journal.{Journaled, told_with}
+use Rattle.batch_rail.specs.Journal.{JournalView, told_with}
 use Rattle.batch_rail.specs.Kept.{counts_of}
 use Rattle.batch_rail.proofs.Keeping.{told_with-past, told_with-kept, AreBatches-kept}
 use Rattle.batch_rail.proofs.journal.Journal.keep.Goals as goal
@@ -9,7 +9,7 @@ returns-then-self-len-clause-told c =
     let j = c.self.inside in
     told_with-past j.slots.items (counts_of j.stretches.items j.empty) c.slots-slots.result.now c.args.batch.now.calls c.slots-slots.ensures.spellings c.slots-slots.ensures.slots c.self.invariant.batches
     j.room j.whole (search rules) (omega (arith, j.slots.ok))
-    ∙ ap (λ (seen : Journaled). told_with seen.room seen.told c.args.batch.now.calls) c.self.view_is
+    ∙ ap (λ (seen : JournalView). told_with seen.room seen.told c.args.batch.now.calls) c.self.view_is
 
 pub invariant_of-self-2 : goal.invariant_of-self-2
 invariant_of-self-2 c =
@@ -29,4 +29,4 @@ returns-clause-told c =
     told_with-kept j.slots.items (counts_of j.stretches.items j.empty) c.slots-slots.result.now c.args.batch.now.calls c.slots-slots.ensures.spellings c.slots-slots.ensures.slots c.self.invariant.batches
     c.copy.new.all.items (counts_of c.counted-self-inside.new.stretches.items c.counted-self-inside.result) c.copy.ensures.items c.counted-self-inside.ensures.counts
     j.room j.whole (search rules) (omega (arith, j.slots.ok))
-    ∙ ap (λ (seen : Journaled). told_with seen.room seen.told c.args.batch.now.calls) c.self.view_is
+    ∙ ap (λ (seen : JournalView). told_with seen.room seen.told c.args.batch.now.calls) c.self.view_is

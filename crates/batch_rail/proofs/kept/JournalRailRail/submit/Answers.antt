@@ -1,5 +1,5 @@
 use Rattle.batch_rail.specs.Journal.{room_by, told_by}
-use Rattle.batch_rail.proofs.Journals.{Told-told_with}
+use Rattle.batch_rail.proofs.Journals.{Gains-told_with}
 use Rattle.batch_rail.proofs.kept.JournalRailRail.submit.Goals as goal
 
 pub returns-clause-stands : goal.returns-clause-stands
@@ -12,7 +12,7 @@ pub returns-clause-journal : goal.returns-clause-journal
 returns-clause-journal g c =
     let inside = c.self.inside in
     rw (← c.self.view_is)
-    (Told-told_with (room_by inside.journal) (told_by inside.journal) (told_by c.keep.new.journal) c.args.full.calls c.keep.ensures.told)
+    (Gains-told_with (room_by inside.journal) (told_by inside.journal) (told_by c.keep.new.journal) c.args.full.calls c.keep.ensures.told)
 
 pub returns-clause-idle : goal.returns-clause-idle
 returns-clause-idle g c = rw (← c.self.view_is) c.submit.ensures.idle
