@@ -1,13 +1,13 @@
 -- How an open batch is cut at one call.
 use Rattle.std.proofs.Common.{◌≡◌, ℕ, ◌+◌, ◌<◌, ◌≤◌, false, true, cond, List, [], ◌∷◌, ◌++◌, length, Result, Ok, Err, OnOk, IsErr, refl, ap, sym, ◌∙◌, arith}
 use Rattle.std.proofs.lemmas.List.{length-append}
-use Rattle.batch_pack.specs.declared.class.Class.TheVariants.{Defer}
+use Rattle.client_shadow.specs.declared.class.Class.TheVariants.{Defer}
 use Rattle.batch_pack.specs.Spelling.{Spelled, slots_of}
-use Rattle.batch_pack.specs.Batch.{Packing, empty_batch, slots_used, slots_left}
-use Rattle.batch_pack.specs.Class.{is_flush}
-use Rattle.batch_pack.specs.Cutting.{batch_unless_empty, joined, cut_before, ended_by, open_by}
+use Rattle.batch_pack.specs.Batch.{BatchView, empty_batch, slots_used, slots_left}
+use Rattle.client_shadow.specs.Flush.{is_flush}
+use Rattle.client_shadow.specs.Cutting.{batch_unless_empty, joined, cut_before, ended_by, open_by}
 use Rattle.batch_pack.proofs.Packings.{slots_used-nil, slots_used-append, slots_used-one}
-use Rattle.batch_pack.proofs.Batching.{fits_empty, joined-fits}
+use Rattle.client_shadow.proofs.Batching.{fits_empty, joined-fits}
 use Rattle.batch_pack.proofs.Parsing.{some_slots}
 
 -- a batch without slots in use has no calls
@@ -16,8 +16,8 @@ nil_from_slots [] none = refl
 nil_from_slots (call ∷ calls) none =
     absurd (omega (arith, slots_used-append (call ∷ []) calls, slots_used-one call, some_slots call))
 
-pub empty_from_nil : (batch : Packing) → batch.calls ≡ [] → batch ≡ empty_batch batch.size
-empty_from_nil batch none = let P : List Spelled → Packing = λ calls. record { size = batch.size; calls = calls } in ap P none
+pub empty_from_nil : (batch : BatchView) → batch.calls ≡ [] → batch ≡ empty_batch batch.size
+empty_from_nil batch none = let P : List Spelled → BatchView = λ calls. record { size = batch.size; calls = calls } in ap P none
 
 -- a batch with slots in use is a batch
 pub some_from_slots : (calls : List Spelled) → 1 ≤ slots_used calls → batch_unless_empty calls ≡ calls ∷ []
@@ -53,20 +53,20 @@ module _ (size : ℕ) (batch : List Spelled) (call : Spelled) where
       ∙ length-append (cut_before size batch call) (cond (is_flush call.call) (batch_unless_empty calls) [])
 
 -- a call that was packed behind the others joins them
-pub packed_behind : (batch new : Packing) (call : Spelled) → new ≡ record { size = batch.size; calls = batch.calls ++ call ∷ [] } → slots_of call ≤ slots_left batch
+pub packed_behind : (batch new : BatchView) (call : Spelled) → new ≡ record { size = batch.size; calls = batch.calls ++ call ∷ [] } → slots_of call ≤ slots_left batch
     → new.calls ≡ joined batch.size batch.calls call ++ call ∷ []
 packed_behind batch new call is fits =
     let joins = ap (λ (l : List Spelled). l ++ call ∷ []) (sym (joined-fits batch.size batch.calls call fits)) in
-    ap (λ (b : Packing). b.calls) is ∙ joins
+    ap (λ (b : BatchView). b.calls) is ∙ joins
 
-module _ (batch before empty new : Packing) (call : Spelled) (short : slots_of call ≤ batch.size) (same : before ≡ batch) (is_empty : empty ≡ empty_batch before.size) where
+module _ (batch before empty new : BatchView) (call : Spelled) (short : slots_of call ≤ batch.size) (same : before ≡ batch) (is_empty : empty ≡ empty_batch before.size) where
   emptied : empty ≡ empty_batch batch.size
-  emptied = is_empty ∙ ap (λ (b : Packing). empty_batch b.size) same
+  emptied = is_empty ∙ ap (λ (b : BatchView). empty_batch b.size) same
 
   -- a call that is packed into an empty batch is there alone
   pub packed_alone : {A E : Type 0} (result : Result A E) → OnOk result (new ≡ record { size = empty.size; calls = empty.calls ++ call ∷ [] })
       → (IsErr result → slots_left empty < slots_of call) → new.calls ≡ call ∷ []
-  packed_alone (Ok done) ok full = ap (λ (b : Packing). b.calls) ok ∙ ap (λ (b : Packing). b.calls ++ call ∷ []) is_empty
+  packed_alone (Ok done) ok full = ap (λ (b : BatchView). b.calls) ok ∙ ap (λ (b : BatchView). b.calls ++ call ∷ []) is_empty
   packed_alone (Err refusal) ok full =
       let left = ap slots_left emptied in
       absurd (omega (arith, fits_empty batch.size call short, full refl, left))

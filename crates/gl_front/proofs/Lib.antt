@@ -2,3 +2,4 @@ pub mod Cuttings
 pub mod Fronts
 pub mod Failures
 pub mod Captures
+pub mod Takings

@@ -1,32 +1,34 @@
 //! The front: the part of the layer that a program calls. It has no driver, and reaches one through its rail.
 
-ghost use Rattle.std.specs.Prelude.{◌≡◌, ◌≢◌, ℕ, ℤ, ◌+◌, ◌-◌, ◌^◌, ◌<◌, ◌⊎◌, Option, Some, List, [], ◌∷◌, length, true, false, IsErr, IfOk, IfErr, OnOk, OnErr};
-ghost use Rattle.gl_words.specs.declared.call.Call.{Call};
-ghost use Rattle.batch_pack.specs.declared.class.Class.TheVariants.{Answer, Sync, Defer};
-ghost use Rattle.batch_pack.specs.Batch.{IsBatchSize};
-ghost use Rattle.batch_pack.specs.Cutting.{batch_unless_empty, ended_at, open_after};
-ghost use Rattle.driver_trait.specs.Tracked.{first_tracked};
-ghost use Rattle.batch_rail.specs.Rail.{Told, StandsForNoMore};
-ghost use Rattle.driver_trait.specs.Reply.{Nothing, Numbers, replied};
-ghost use Rattle.gl_memory.specs.ClientMemory.{memory_of, written};
+ghost use Rattle.std.specs.Prelude.{◌≡◌, ◌^◌, ◌<◌, [], Some, true, IsErr, IfOk, IfErr, OnOk, OnErr};
+ghost use Rattle.gl_words.specs.Call.{IsInRange};
+ghost use Rattle.client_shadow.specs.declared.class.Class.TheVariants.{Answer, Sync, Defer};
+ghost use Rattle.client_shadow.specs.Class.{pieces_of};
+ghost use Rattle.client_shadow.specs.Look.{Captures, class_in, number_in};
+ghost use Rattle.gl_tracked.specs.Fault.{fault_of};
+ghost use Rattle.gl_tracked.specs.Step.{number_asked, tracked_after};
+ghost use Rattle.gl_tracked.specs.Tracked.{first_tracked};
 ghost use Rattle.driver_trait.specs.Output.{memory_after};
-ghost use Rattle.driver_trait.specs.Step.{number_asked, tracked_after};
-ghost use Rattle.gl_front.specs.Front.{Fronting, new_front, StandsFor, CarriesOut, KnowsTracked, MayReply, TakesReply, class_at, issued_by, FailsOnlyBy, counts_after, counts_flushed, StopsAtCall, AllRiseLittle, RisesLittle, AllHaveRoom, HasRoom};
+ghost use Rattle.driver_trait.specs.Reply.{Nothing, replied};
+ghost use Rattle.gl_memory.specs.ClientMemory.{memory_of, written};
+ghost use Rattle.batch_rail.specs.Maker.{IsLaunched};
+ghost use Rattle.gl_front.specs.Front.{FrontView, new_front, KnowsTracked, class_at, AllHaveRoom, CanRise};
+ghost use Rattle.gl_front.specs.Taking.{TakesCall, IsIssued, IsAnswered, HasWaited, Flushes, RefusesCall, KeepsCount};
 
 use crate::counts::Counts;
 use crate::steps::{await_all, carry_out, put_off, submit_unless_empty};
-use batch_pack::{Batch, Class};
+use batch_pack::Batch;
 use batch_rail::Rail;
-use client_shadow::Shadow;
+use client_shadow::{Becomes, Class, Look, Shadow};
 use driver_trait::{Driver, Reply, write_reply};
 use gl_memory::{ClientMemory, Pieces};
-use gl_words::{Call, in_range};
+use gl_words::{Call, GlError, call_id};
 use std::alloc::{AllocError, AllocError as NoMemory, Global};
 use std::marker::{Model, PhantomData};
 use std::thread::Threads;
 
-/// A front over a rail; own. Contracts see its rail, the calls of its open batch with what was captured for
-/// them, the bytes of client memory, the tracked state, whether an issue was refused, and its counts.
+/// A front over a rail; own. Contracts see its rail, the size of its batches in slots, the calls of its open batch with
+/// what was captured for them, the bytes of client memory, the tracked state, whether an issue was refused, and its counts.
 #[derive(Drop)]
 pub struct Front<D: Driver, R: Rail<D>> {
     rail: R,
@@ -39,13 +41,14 @@ pub struct Front<D: Driver, R: Rail<D>> {
 }
 
 impl<D: Driver, R: Rail<D>> Model for Front<D, R> {
-    ghost use Rattle.gl_front.specs.Front.{Fronting, KnowsTracked};
+    ghost use Rattle.gl_front.specs.Front.{FrontView, KnowsTracked};
     ghost use Rattle.gl_front.specs.FrontState.{open_calls, IsReady};
 
-    ghost Value = { Fronting R };
+    ghost Value = { FrontView R };
 
     ghost view = { λ f. record {
       rail = f.rail;
+      size = R.size f.rail;
       calls = open_calls f.batch;
       memory = f.memory;
       tracked = f.shadow;
@@ -56,6 +59,7 @@ impl<D: Driver, R: Rail<D>> Model for Front<D, R> {
     ghost invariant = { λ f. IsReady (R.home f.rail) (R.size f.rail) f.batch
         × KnowsTracked D.tracked R.stands D.steps (record {
           rail = f.rail;
+          size = R.size f.rail;
           calls = open_calls f.batch;
           memory = f.memory;
           tracked = f.shadow;
@@ -65,17 +69,16 @@ impl<D: Driver, R: Rail<D>> Model for Front<D, R> {
 }
 
 impl<D: Driver, R: Rail<D>> Front<D, R> {
-    /// A front over a rail and client memory, with an empty batch of the rail's size. Want of memory gives
-    /// both back.
+    /// A front over a rail as it is launched and over client memory, with an empty batch of the rail's size. Want of
+    /// memory gives both back; own.
     pub fn new(
         alloc: Global,
         rail: R,
         memory: ClientMemory,
     ) -> Result<Self, (R, ClientMemory, NoMemory)>
-        requires home { R.home rail }
-        requires size { IsBatchSize (R.size rail) }
-        requires tracked { (st : D) → R.stands rail st → D.tracked st ≡ first_tracked }
-        ensures ok { IfOk result (λ front. front ≡ new_front rail memory) }
+        requires launched { IsLaunched D.tracked (R.stands rail) (R.failed rail) (R.home rail)
+            (R.size rail) first_tracked }
+        ensures ok { IfOk result (λ front. front ≡ new_front rail (R.size rail) memory) }
         ensures err { IfErr result (λ refusal. (refusal.0 ≡ rail) × (refusal.1 ≡ memory)) }
     {
         match Batch::new(alloc, rail.slots()) {
@@ -99,215 +102,177 @@ impl<D: Driver, R: Rail<D>> Front<D, R> {
 
     /// The class of a call, by the tracked state, client memory and the size of batches. It takes no memory; own.
     pub fn class(&self, call: &Call) -> Class
-        ensures { result ≡ class_at self.now (R.size self.now.rail) call.now }
+        ensures { result ≡ class_at self.now call.now }
     {
         self.shadow.class(call, &self.memory, self.rail.slots())
     }
 
-    /// Does nothing. Its contract is that the front keeps the tracked part of each state for which it may stand.
+    /// The size of its batches, in slots: that of its rail; own.
+    pub fn slots(&self) -> u32
+        ensures size { result ≡ self.now.size }
+        ensures rail { R.size self.now.rail ≡ self.now.size }
+    {
+        self.rail.slots()
+    }
+
+    /// Does nothing. Its contract is that the front keeps the tracked part of each state for which it may stand; own.
     pub fn knows_tracked(&self)
         ensures { KnowsTracked D.tracked R.stands D.steps self.now }
     {
         let _rail = &self.rail;
     }
 
-    /// Issues a call, and gives its reply, which is written into client memory where the call wants it. After a refusal
-    /// every later issue is refused and does nothing.
+    /// Issues a call, and gives its reply, which is written into client memory where the call wants it. Only a call that
+    /// waits meets the first NoMemory: a batch before it failed, or the driver was refused memory at the call itself.
+    /// After a refusal every later issue is refused and does nothing; own.
     pub fn issue<T: Threads + Sync>(&mut self, rt: &T, call: &Call) -> Result<Reply, NoMemory>
         requires counts { AllHaveRoom self.old.counts }
-        requires sent { HasRoom (R.sent self.old.rail) }
-        // the reply is the driver's, and no other state is stood for
-        ensures ok { IfOk result
-            (λ reply. CarriesOut R.stands D.steps self.old self.new call.now (replied reply)) }
-        ensures taken { IfOk result
-            (λ reply. TakesReply self.old self.new call.now (replied reply)) }
-        // a call that waits is answered from a state stood for, and the driver put back
-        ensures replied { class_at self.old (R.size self.old.rail) call.now ≡ Sync → IfOk result
-            (λ reply. MayReply R.stands D.steps self.old call.now (replied reply)) }
-        ensures sound { class_at self.old (R.size self.old.rail) call.now ≡ Sync
-            → OnOk result (¬ R.failed self.new.rail) }
-        // a get of tracked state is answered by what is known, and the rail isn't touched
-        ensures number { class_at self.old (R.size self.old.rail) call.now ≡ Answer → IfOk result
-            (λ reply. (number : ℤ) × (number_asked self.old.tracked call.now ≡ Some number)
-            × (replied reply ≡ Numbers (number ∷ []))) }
-        ensures answered { class_at self.old (R.size self.old.rail) call.now ≡ Answer
-            → OnOk result (self.new.rail ≡ self.old.rail) }
-        // a call that is put off gives nothing, and the rail is touched only where a batch ends
-        ensures nothing { class_at self.old (R.size self.old.rail) call.now ≡ Defer
-            → IfOk result (λ reply. replied reply ≡ Nothing) }
-        ensures kept { class_at self.old (R.size self.old.rail) call.now ≢ Sync
-            → ended_at (R.size self.old.rail) self.old.calls
-            (issued_by self.old (R.size self.old.rail) call.now) ≡ []
-            → OnOk result (self.new.rail ≡ self.old.rail) }
-        ensures open_batch { OnOk result (self.new.calls ≡ open_after (R.size self.old.rail)
-            self.old.calls (issued_by self.old (R.size self.old.rail) call.now)) }
-        ensures counts { OnOk result (self.new.counts ≡ counts_after self.old.counts
-            (class_at self.old (R.size self.old.rail) call.now)
-            (length (ended_at (R.size self.old.rail) self.old.calls
-            (issued_by self.old (R.size self.old.rail) call.now)))) }
-        ensures journal { OnOk result (Told (R.journal self.old.rail) (R.journal self.new.rail)
-            (ended_at (R.size self.old.rail) self.old.calls
-            (issued_by self.old (R.size self.old.rail) call.now))) }
-        // a refusal adds no state and is never forgotten; only a call that waits meets the first
-        ensures err { OnErr result
-            (StandsForNoMore (StandsFor R.stands D.steps self.old)
-            (StandsFor R.stands D.steps self.new)) }
-        ensures stopped { self.old.refused ≡ false → OnErr result
-            (StopsAtCall (R.journal self.old.rail) (R.journal self.new.rail) self.old self.new) }
-        ensures marked { OnErr result (self.new.refused ≡ true) }
-        ensures unmarked { OnOk result (self.new.refused ≡ false) }
-        ensures refused { self.old.refused ≡ true → IsErr result }
-        ensures idle { self.old.refused ≡ true → self.new ≡ self.old }
-        ensures deferred { class_at self.old (R.size self.old.rail) call.now ≢ Sync
-            → IsErr result → self.old.refused ≡ true }
-        // the rail may have failed only where it may have before, or where a batch ended here;
-        // each batch that ends holds a call
-        ensures failed { FailsOnlyBy (R.failed self.old.rail) (R.failed self.new.rail)
-            (ended_at (R.size self.old.rail) self.old.calls
-            (issued_by self.old (R.size self.old.rail) call.now)) }
-        ensures err_failed { OnErr result
-            (R.failed self.new.rail → R.failed self.old.rail ⊎ (self.old.calls ≢ [])) }
-        ensures size { R.size self.new.rail ≡ R.size self.old.rail }
-        ensures sent { RisesLittle (R.sent self.old.rail) (R.sent self.new.rail) }
-        ensures rises { AllRiseLittle self.old.counts self.new.counts }
+        requires sent { CanRise (R.sent self.old.rail) }
+        ensures ok { IfOk result (λ reply. TakesCall R.stands R.failed R.journal R.sent D.steps
+            self.old self.new call.now (replied reply)) }
+        ensures issued { IfOk result (λ reply. IsIssued R.stands R.failed D.steps
+            self.old self.new call.now (replied reply)) }
+        ensures err { OnErr result (RefusesCall R.stands R.failed R.journal R.sent D.steps
+            self.old self.new call.now) }
+        ensures idle { self.old.refused ≡ true → IsErr result × (self.new ≡ self.old) }
+        ensures rises { KeepsCount R.sent self.old self.new }
     {
         if self.refused {
             return Err(AllocError);
         }
-        match self.class(call) {
-            Class::Defer => {
-                self.defer(rt, call);
+        let look = self.look(call);
+        match &look.becomes {
+            Becomes::Defer(pieces) => {
+                self.put_off(rt, call, pieces, look.fault);
                 Ok(Reply::Nothing)
             }
-            Class::Answer => Ok(self.answer(call)),
-            Class::Sync => self.synchronise(rt, call),
+            Becomes::Answer(number) => Ok(self.answer(call, *number)),
+            Becomes::Sync => self.synchronise(rt, call, look.fault),
         }
     }
 
-    /// Answers a call from the tracked state, and writes the answer.
-    fn answer(&mut self, call: &Call) -> Reply
-        requires class { class_at self.old (R.size self.old.rail) call.now ≡ Answer }
-        requires counts { AllHaveRoom self.old.counts }
-        ensures carries { CarriesOut R.stands D.steps self.old self.new call.now (replied result) }
-        ensures taken { TakesReply self.old self.new call.now (replied result) }
-        ensures number { (number : ℤ) × (number_asked self.old.tracked call.now ≡ Some number)
-            × (replied result ≡ Numbers (number ∷ [])) }
-        ensures counts { self.new.counts ≡ counts_after self.old.counts Answer 0 }
-        ensures calls { self.new.calls ≡ self.old.calls }
-        ensures rail { self.new.rail ≡ self.old.rail }
-        ensures mark { self.new.refused ≡ self.old.refused }
+    /// Looks at a call, once for all that is done with it.
+    fn look(&self, call: &Call) -> Look
+        ensures class { class_in result.becomes ≡ class_at self.now call.now }
+        ensures number { number_in result.becomes ≡ number_asked self.now.tracked call.now }
+        ensures pieces { Captures result.becomes
+            (pieces_of self.now.tracked call.now (memory_of self.now.memory)) }
+        ensures fault { result.fault ≡ fault_of self.now.tracked call.now }
+        ensures in_range { IsInRange call.now }
     {
-        in_range(call);
+        call_id(call);
+        self.shadow.look(call, &self.memory, self.rail.slots())
+    }
+
+    /// Answers a call with the number that is known, and writes it. Such a call leaves the tracked state.
+    fn answer(&mut self, call: &Call, number: i64) -> Reply
+        requires in_range { IsInRange call.now }
+        requires asked { number_asked self.old.tracked call.now ≡ Some number }
+        requires counts { CanRise self.old.counts.answered }
+        ensures taken { TakesCall R.stands R.failed R.journal R.sent D.steps
+            self.old self.new call.now (replied result) }
+        ensures answered { IsAnswered self.old self.new call.now (replied result) }
+        ensures rises { KeepsCount R.sent self.old self.new }
+    {
         self.memory.bytes();
-        let Some(number) = self.shadow.answer(call) else {
-            unreachable!();
-        };
         self.counts.answered += 1;
         let reply = Reply::One(number);
-        take_reply(&mut self.shadow, &mut self.memory, call, &reply);
+        write_reply(&mut self.memory, self.shadow.tracked(), call, &reply);
         reply
     }
 
-    /// Puts a call that doesn't wait into a batch. It takes no memory, and has no refusal.
+    /// Puts a call that doesn't wait into a batch. It takes no memory, and has no refusal; own.
     pub fn defer<T: Threads + Sync>(&mut self, rt: &T, call: &Call)
-        requires class { class_at self.old (R.size self.old.rail) call.now ≡ Defer }
-        requires counts { AllHaveRoom self.old.counts }
-        requires sent { HasRoom (R.sent self.old.rail) }
-        ensures carries { CarriesOut R.stands D.steps self.old self.new call.now Nothing }
-        ensures taken { TakesReply self.old self.new call.now Nothing }
-        // the rail is touched only where a batch ends
-        ensures kept { ended_at (R.size self.old.rail) self.old.calls
-            (issued_by self.old (R.size self.old.rail) call.now) ≡ []
-            → self.new.rail ≡ self.old.rail }
-        ensures failed { FailsOnlyBy (R.failed self.old.rail) (R.failed self.new.rail)
-            (ended_at (R.size self.old.rail) self.old.calls
-            (issued_by self.old (R.size self.old.rail) call.now)) }
-        ensures open_batch { self.new.calls ≡ open_after (R.size self.old.rail)
-            self.old.calls (issued_by self.old (R.size self.old.rail) call.now) }
-        ensures counts { self.new.counts ≡ counts_after self.old.counts Defer
-            (length (ended_at (R.size self.old.rail) self.old.calls
-            (issued_by self.old (R.size self.old.rail) call.now))) }
-        ensures journal { Told (R.journal self.old.rail) (R.journal self.new.rail)
-            (ended_at (R.size self.old.rail) self.old.calls
-            (issued_by self.old (R.size self.old.rail) call.now)) }
-        ensures mark { self.new.refused ≡ self.old.refused }
-        ensures size { R.size self.new.rail ≡ R.size self.old.rail }
-        ensures sent { RisesLittle (R.sent self.old.rail) (R.sent self.new.rail) }
-        ensures rises { AllRiseLittle self.old.counts self.new.counts }
+        requires class { class_at self.old call.now ≡ Defer }
+        requires deferred { CanRise self.old.counts.deferred }
+        requires batches { CanRise self.old.counts.batches }
+        requires sent { CanRise (R.sent self.old.rail) }
+        ensures taken { TakesCall R.stands R.failed R.journal R.sent D.steps
+            self.old self.new call.now Nothing }
+        ensures rises { KeepsCount R.sent self.old self.new }
     {
-        in_range(call);
+        let look = self.look(call);
+        match &look.becomes {
+            Becomes::Defer(pieces) => self.put_off(rt, call, pieces, look.fault),
+            Becomes::Answer(_) | Becomes::Sync => unreachable!(),
+        }
+    }
+
+    /// Puts a call into a batch with the pieces that are captured for it, and notes it.
+    fn put_off<T: Threads + Sync>(
+        &mut self,
+        rt: &T,
+        call: &Call,
+        pieces: &Pieces,
+        fault: Option<GlError>,
+    )
+        requires in_range { IsInRange call.now }
+        requires class { class_at self.old call.now ≡ Defer }
+        requires pieces { pieces.now
+            ≡ pieces_of self.old.tracked call.now (memory_of self.old.memory) }
+        requires fault { fault ≡ fault_of self.old.tracked call.now }
+        requires deferred { CanRise self.old.counts.deferred }
+        requires batches { CanRise self.old.counts.batches }
+        requires sent { CanRise (R.sent self.old.rail) }
+        ensures taken { TakesCall R.stands R.failed R.journal R.sent D.steps
+            self.old self.new call.now Nothing }
+        ensures rises { KeepsCount R.sent self.old self.new }
+    {
         self.memory.bytes();
         let Some(batch) = self.batch.take() else {
             return;
         };
-        let pieces = Pieces::new();
-        let (batch, sent) = put_off(rt, &mut self.rail, batch, call, &pieces, &self.memory);
+        let (batch, sent) = put_off(rt, &mut self.rail, batch, call, pieces, &self.memory);
         self.batch = Some(batch);
         self.counts.deferred += 1;
         self.counts.batches += sent;
-        self.shadow.note(call, &self.memory);
+        self.shadow.note(call, &self.memory, fault);
     }
 
-    fn synchronise<T: Threads + Sync>(&mut self, rt: &T, call: &Call) -> Result<Reply, NoMemory>
-        requires class { class_at self.old (R.size self.old.rail) call.now ≡ Sync }
-        requires counts { AllHaveRoom self.old.counts }
-        requires sent { HasRoom (R.sent self.old.rail) }
-        ensures ok { IfOk result
-            (λ reply. CarriesOut R.stands D.steps self.old self.new call.now (replied reply)) }
-        ensures taken { IfOk result
-            (λ reply. TakesReply self.old self.new call.now (replied reply)) }
-        ensures failed { R.failed self.new.rail → R.failed self.old.rail ⊎ (self.old.calls ≢ []) }
-        ensures replied { IfOk result
-            (λ reply. MayReply R.stands D.steps self.old call.now (replied reply)) }
-        ensures sound { OnOk result (¬ R.failed self.new.rail) }
-        ensures open_batch { self.new.calls ≡ [] }
-        ensures counts { OnOk result (self.new.counts ≡ counts_after self.old.counts Sync
-            (length (batch_unless_empty self.old.calls))) }
-        ensures stopped { OnErr result
-            (StopsAtCall (R.journal self.old.rail) (R.journal self.new.rail) self.old self.new) }
-        ensures journal { Told (R.journal self.old.rail) (R.journal self.new.rail)
-            (batch_unless_empty self.old.calls) }
-        ensures err { OnErr result
-            (StandsForNoMore (StandsFor R.stands D.steps self.old)
-            (StandsFor R.stands D.steps self.new)) }
-        ensures marked { OnErr result (self.new.refused ≡ true) }
-        ensures unmarked { OnOk result (self.new.refused ≡ self.old.refused) }
-        ensures size { R.size self.new.rail ≡ R.size self.old.rail }
-        ensures sent { RisesLittle (R.sent self.old.rail) (R.sent self.new.rail) }
-        ensures rises { AllRiseLittle self.old.counts self.new.counts }
+    /// Has all calls before a call carried out, and then it.
+    fn synchronise<T: Threads + Sync>(
+        &mut self,
+        rt: &T,
+        call: &Call,
+        fault: Option<GlError>,
+    ) -> Result<Reply, NoMemory>
+        requires in_range { IsInRange call.now }
+        requires class { class_at self.old call.now ≡ Sync }
+        requires fault { fault ≡ fault_of self.old.tracked call.now }
+        requires synchronised { CanRise self.old.counts.synchronised }
+        requires batches { CanRise self.old.counts.batches }
+        requires sent { CanRise (R.sent self.old.rail) }
+        ensures ok { IfOk result (λ reply. TakesCall R.stands R.failed R.journal R.sent D.steps
+            self.old self.new call.now (replied reply)) }
+        ensures waited { IfOk result (λ reply. HasWaited R.stands R.failed D.steps
+            self.old self.new call.now (replied reply)) }
+        ensures err { OnErr result (RefusesCall R.stands R.failed R.journal R.sent D.steps
+            self.old self.new call.now) }
+        ensures rises { KeepsCount R.sent self.old self.new }
     {
-        in_range(call);
         self.memory.bytes();
         self.flush(rt);
-        let reply = carry_out(rt, &mut self.rail, call, &self.memory);
-        match &reply {
+        let carried = carry_out(rt, &mut self.rail, call, &self.memory);
+        match carried {
             Ok(reply) => {
                 self.counts.synchronised += 1;
-                take_reply(&mut self.shadow, &mut self.memory, call, reply);
+                take_reply(&mut self.shadow, &mut self.memory, call, &reply, fault);
+                Ok(reply)
             }
-            Err(_) => self.refused = true,
+            Err(refusal) => {
+                self.refused = true;
+                Err(refusal)
+            }
         }
-        reply
     }
 
-    /// Submits the open batch, unless it is empty.
+    /// Submits the open batch, unless it is empty; own.
     pub fn flush<T: Threads + Sync>(&mut self, rt: &T)
-        requires counts { AllHaveRoom self.old.counts }
-        requires sent { HasRoom (R.sent self.old.rail) }
-        ensures stands { StandsForNoMore (StandsFor R.stands D.steps self.old)
-            (StandsFor R.stands D.steps self.new) }
+        requires batches { CanRise self.old.counts.batches }
+        requires sent { CanRise (R.sent self.old.rail) }
+        ensures flushed { Flushes R.stands R.failed R.journal R.sent D.steps self.old self.new }
         ensures kept { self.old.calls ≡ [] → self.new.rail ≡ self.old.rail }
-        ensures open_batch { self.new.calls ≡ [] }
-        ensures counts { self.new.counts
-            ≡ counts_flushed self.old.counts (length (batch_unless_empty self.old.calls)) }
-        ensures journal { Told (R.journal self.old.rail) (R.journal self.new.rail)
-            (batch_unless_empty self.old.calls) }
-        ensures memory { self.new.memory ≡ self.old.memory }
-        ensures tracked { self.new.tracked ≡ self.old.tracked }
-        ensures mark { self.new.refused ≡ self.old.refused }
-        ensures failed { R.failed self.new.rail → R.failed self.old.rail ⊎ (self.old.calls ≢ []) }
-        ensures size { R.size self.new.rail ≡ R.size self.old.rail }
-        ensures sent { RisesLittle (R.sent self.old.rail) (R.sent self.new.rail) }
+        ensures rises { KeepsCount R.sent self.old self.new }
     {
         let Some(batch) = self.batch.take() else {
             return;
@@ -317,31 +282,20 @@ impl<D: Driver, R: Rail<D>> Front<D, R> {
         self.counts.batches += sent;
     }
 
-    /// Submits the open batch and waits until all are carried out. Refused only where one failed.
+    /// Submits the open batch and waits until all are carried out. Refused only where one failed; own.
     pub fn finish<T: Threads + Sync>(&mut self, rt: &T) -> Result<(), NoMemory>
-        requires counts { AllHaveRoom self.old.counts }
-        requires sent { HasRoom (R.sent self.old.rail) }
-        ensures stands { StandsForNoMore (StandsFor R.stands D.steps self.old)
-            (StandsFor R.stands D.steps self.new) }
+        requires batches { CanRise self.old.counts.batches }
+        requires sent { CanRise (R.sent self.old.rail) }
+        ensures flushed { Flushes R.stands R.failed R.journal R.sent D.steps self.old self.new }
         ensures sound { OnOk result (¬ R.failed self.new.rail) }
-        ensures err { OnErr result
-            (R.failed self.new.rail × (R.failed self.old.rail ⊎ (self.old.calls ≢ []))) }
-        ensures open_batch { self.new.calls ≡ [] }
-        ensures counts { self.new.counts
-            ≡ counts_flushed self.old.counts (length (batch_unless_empty self.old.calls)) }
-        ensures journal { Told (R.journal self.old.rail) (R.journal self.new.rail)
-            (batch_unless_empty self.old.calls) }
-        ensures memory { self.new.memory ≡ self.old.memory }
-        ensures tracked { self.new.tracked ≡ self.old.tracked }
-        ensures mark { self.new.refused ≡ self.old.refused }
-        ensures size { R.size self.new.rail ≡ R.size self.old.rail }
-        ensures sent { RisesLittle (R.sent self.old.rail) (R.sent self.new.rail) }
+        ensures err { OnErr result (R.failed self.new.rail) }
+        ensures rises { KeepsCount R.sent self.old self.new }
     {
         self.flush(rt);
         await_all(&mut self.rail)
     }
 
-    /// Writes bytes into client memory from the place `at` on. Those that fall outside are dropped.
+    /// Writes bytes into client memory from the place `at` on. Those that fall outside are dropped; own.
     pub fn write_memory(&mut self, at: u64, bytes: &[u8])
         requires place { at < 2 ^ 62 }
         ensures { self.new ≡ record self.old { memory = written self.old.memory at bytes.now } }
@@ -349,21 +303,21 @@ impl<D: Driver, R: Rail<D>> Front<D, R> {
         self.memory.write(at, bytes);
     }
 
-    /// Client memory.
+    /// Client memory; own.
     pub fn memory(&self) -> &ClientMemory
         ensures { result.now ≡ self.now.memory }
     {
         &self.memory
     }
 
-    /// How many calls and batches there were.
+    /// How many calls and batches there were; own.
     pub fn counts(&self) -> Counts
         ensures { result ≡ self.now.counts }
     {
         self.counts
     }
 
-    /// The rail, whose driver isn't taken, and client memory.
+    /// The rail, whose driver isn't taken, and client memory; own.
     pub fn into_parts(self) -> (R, ClientMemory)
         requires open_batch { self.calls ≡ [] }
         ensures rail { result.0 ≡ self.rail }
@@ -375,13 +329,20 @@ impl<D: Driver, R: Rail<D>> Front<D, R> {
     }
 }
 
-/// Notes a call, and writes its reply into client memory. The reply is written last, since the tracked state takes the
-/// call on client memory as it was.
-fn take_reply(shadow: &mut Shadow, memory: &mut ClientMemory, call: &Call, reply: &Reply)
+/// Notes a call with its error, and writes its reply into client memory. The reply is written last, since the tracked
+/// state takes the call on client memory as it was.
+fn take_reply(
+    shadow: &mut Shadow,
+    memory: &mut ClientMemory,
+    call: &Call,
+    reply: &Reply,
+    fault: Option<GlError>,
+)
+    requires fault { fault ≡ fault_of shadow.old call.now }
     ensures tracked { shadow.new ≡ tracked_after shadow.old call.now (memory_of memory.old) }
     ensures memory { memory.new ≡ memory_after shadow.old call.now (replied reply.now) memory.old }
 {
     let before = *shadow.tracked();
-    shadow.note(call, memory);
+    shadow.note(call, memory, fault);
     write_reply(memory, &before, call, reply);
 }

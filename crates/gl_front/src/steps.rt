@@ -1,20 +1,21 @@
 //! The steps of a front, over a rail and an open batch: putting a call behind the others, submitting,
 //! carrying one out at once. No front stands here.
 
-ghost use Rattle.std.specs.Prelude.{◌≡◌, ◌≢◌, ◌+◌, ◌-◌, ◌^◌, ◌<◌, ◌≤◌, ◌⊎◌, ◌↔◌, if◌then◌else◌, [], ◌∷◌, ◌++◌, length, IfOk, IsErr, OnOk, OnErr};
-ghost use Rattle.batch_pack.specs.declared.class.Class.TheVariants.{Defer};
+ghost use Rattle.std.specs.Prelude.{◌≡◌, ◌+◌, ◌-◌, ◌^◌, ◌<◌, ◌≤◌, if◌then◌else◌, [], ◌∷◌, ◌++◌, length, IfOk, OnOk, OnErr};
+ghost use Rattle.client_shadow.specs.declared.class.Class.TheVariants.{Defer};
 ghost use Rattle.batch_pack.specs.Batch.{captured, empty_batch};
-ghost use Rattle.batch_pack.specs.Class.{is_flush};
-ghost use Rattle.batch_pack.specs.Cutting.{batch_unless_empty, joined, cut_before, ended_by, open_by};
+ghost use Rattle.client_shadow.specs.Flush.{is_flush};
+ghost use Rattle.client_shadow.specs.Cutting.{batch_unless_empty, joined, cut_before, ended_by, open_by};
 ghost use Rattle.batch_pack.specs.Spelling.{slots_of};
 ghost use Rattle.batch_rail.specs.Run.{RunsFrom};
-ghost use Rattle.batch_rail.specs.Rail.{Told, StandsForNoMore};
+ghost use Rattle.batch_rail.specs.Rail.{Gains, StandsForNoMore};
 ghost use Rattle.driver_trait.specs.Reply.{replied};
 ghost use Rattle.gl_memory.specs.ClientMemory.{memory_of};
 ghost use Rattle.gl_front.specs.Front.{FailsOnlyBy};
 
-use batch_pack::{Batch, sends_batch};
+use batch_pack::Batch;
 use batch_rail::Rail;
+use client_shadow::sends_batch;
 use driver_trait::{Driver, Reply};
 use gl_memory::{ClientMemory, Pieces};
 use gl_words::Call;
@@ -41,7 +42,7 @@ pub fn submit_unless_empty<T: Threads + Sync, D: Driver, R: Rail<D>>(
     ensures home { R.home rail.new }
     ensures size { R.size rail.new ≡ R.size rail.old }
     ensures sent { R.sent rail.new ≡ R.sent rail.old + result.1 }
-    ensures journal { Told (R.journal rail.old) (R.journal rail.new)
+    ensures journal { Gains (R.journal rail.old) (R.journal rail.new)
         (batch_unless_empty batch.calls) }
 {
     if batch.used() == 0 {
@@ -81,7 +82,7 @@ fn put_behind<T: Threads + Sync, D: Driver, R: Rail<D>>(
     ensures home { R.home rail.new }
     ensures rail_size { R.size rail.new ≡ R.size rail.old }
     ensures sent { R.sent rail.new ≡ R.sent rail.old + result.1 }
-    ensures journal { Told (R.journal rail.old) (R.journal rail.new)
+    ensures journal { Gains (R.journal rail.old) (R.journal rail.new)
         (cut_before batch.size batch.calls (captured call.now pieces.now memory.now)) }
 {
     let mut batch = batch;
@@ -120,7 +121,7 @@ fn submit_if_sent<T: Threads + Sync, D: Driver, R: Rail<D>>(
     ensures home { R.home rail.new }
     ensures rail_size { R.size rail.new ≡ R.size rail.old }
     ensures sent { R.sent rail.new ≡ R.sent rail.old + result.1 }
-    ensures journal { Told (R.journal rail.old) (R.journal rail.new)
+    ensures journal { Gains (R.journal rail.old) (R.journal rail.new)
         (if is_flush last.now then batch_unless_empty batch.calls else []) }
 {
     if sends_batch(last) {
@@ -159,7 +160,7 @@ pub fn put_off<T: Threads + Sync, D: Driver, R: Rail<D>>(
     ensures home { R.home rail.new }
     ensures rail_size { R.size rail.new ≡ R.size rail.old }
     ensures sent { R.sent rail.new ≡ R.sent rail.old + result.1 }
-    ensures journal { Told (R.journal rail.old) (R.journal rail.new)
+    ensures journal { Gains (R.journal rail.old) (R.journal rail.new)
         (ended_by Defer batch.size batch.calls (captured call.now pieces.now memory.now)) }
 {
     let (batch, before) = put_behind(rt, rail, batch, call, pieces, memory);
@@ -186,7 +187,7 @@ pub fn carry_out<T: Threads + Sync, D: Driver, R: Rail<D>>(
     ensures home { R.home rail.new }
     ensures size { R.size rail.new ≡ R.size rail.old }
     ensures sent { R.sent rail.new ≡ R.sent rail.old }
-    ensures journal { Told (R.journal rail.old) (R.journal rail.new) [] }
+    ensures journal { Gains (R.journal rail.old) (R.journal rail.new) [] }
 {
     let mut driver = rail.take()?;
     let reply = driver.call(rt, call, memory);
@@ -203,7 +204,7 @@ pub fn await_all<D: Driver, R: Rail<D>>(rail: &mut R) -> Result<(), NoMemory>
     ensures home { R.home rail.new }
     ensures size { R.size rail.new ≡ R.size rail.old }
     ensures sent { R.sent rail.new ≡ R.sent rail.old }
-    ensures journal { Told (R.journal rail.old) (R.journal rail.new) [] }
+    ensures journal { Gains (R.journal rail.old) (R.journal rail.new) [] }
 {
     let driver = rail.take()?;
     rail.put(driver);

@@ -2,105 +2,25 @@
 //! batch is cut follows from the lengths of the spellings: a slot, and one more for each argument.
 
 ghost use Rattle.std.specs.Prelude.{◌≡◌, ◌≤◌, [], length, IfOk};
-ghost use Rattle.batch_pack.specs.Batch.{IsBatchSize};
-ghost use Rattle.driver_trait.specs.Tracked.{first_tracked};
-ghost use Rattle.driver_trait.specs.Recorder.{RecorderSteps};
-ghost use Rattle.driver_trait.specs.Recording.{recorder_is_driver};
-ghost use Rattle.gl_front.specs.Front.{AllHaveRoom, AllRiseLittle, HasRoom, RisesLittle, no_counts};
+ghost use Rattle.gl_tracked.specs.Tracked.{first_tracked};
+ghost use Rattle.driver_trait.specs.Recorder.{RecorderView};
+ghost use Rattle.batch_rail.specs.Maker.{IsLaunched};
+ghost use Rattle.gl_front.specs.Front.{AllHaveRoom, CanRise, no_counts};
+ghost use Rattle.gl_front.specs.Taking.{KeepsCount};
+
+mod doubles;
+mod gets;
 
 use super::*;
-use batch_pack::{Batch, Class};
-use batch_rail::{InlineMaker, Rail, RailMaker, RailState};
-use driver_trait::{Driver, Machine, Recorder, Reply};
-use gl_memory::{ClientMemory, Memory};
+use batch_rail::{InlineMaker, Rail, RailMaker};
+use client_shadow::Class;
+use doubles::{Counting, Limited};
+use driver_trait::{Recorder, Reply};
+use gl_memory::ClientMemory;
 use gl_words::Call;
 use std::alloc::{AllocError, AllocError as NoMemory, Global};
-use std::marker::Model;
 use std::test::Fail;
 use std::thread::Threads;
-
-/// A recorder that is refused memory where it met as many calls as it has room for.
-#[derive(Drop)]
-struct Limited {
-    recorder: Recorder,
-    room: usize,
-}
-
-impl Model for Limited {
-    ghost use Rattle.driver_trait.specs.Recorder.{Recorded};
-
-    ghost Value = { Recorded };
-
-    ghost view = { λ l. l.recorder };
-}
-
-impl Machine for Limited {
-    ghost tracked = { λ st. st.tracked };
-
-    ghost steps = { RecorderSteps };
-
-    ghost laws = { recorder_is_driver };
-}
-
-impl Driver for Limited {
-    fn call<T: Threads + Sync, M: Memory>(
-        &mut self,
-        rt: &T,
-        call: &Call,
-        memory: &M,
-    ) -> Result<Reply, NoMemory> {
-        if self.recorder.calls().len() >= self.room {
-            return Err(AllocError);
-        }
-        self.recorder.call(rt, call, memory)
-    }
-}
-
-/// A rail that counts how often `take` was called, and is else the rail inside.
-#[derive(Drop)]
-struct Counting<R> {
-    inside: R,
-    takes: u64,
-}
-
-impl<D: Machine, R: RailState<D>> RailState<D> for Counting<R> {
-    ghost stands = { λ rail. R.stands rail.inside };
-
-    ghost failed = { λ rail. R.failed rail.inside };
-
-    ghost home = { λ rail. R.home rail.inside };
-
-    ghost taken = { λ rail. R.taken rail.inside };
-
-    ghost size = { λ rail. R.size rail.inside };
-
-    ghost sent = { λ rail. R.sent rail.inside };
-
-    ghost journal = { λ rail. R.journal rail.inside };
-}
-
-impl<D: Driver, R: Rail<D>> Rail<D> for Counting<R> {
-    fn submit<T: Threads + Sync>(&mut self, rt: &T, full: Batch) -> Batch {
-        self.inside.submit(rt, full)
-    }
-
-    fn take(&mut self) -> Result<D, NoMemory> {
-        self.takes = self.takes.saturating_add(1);
-        self.inside.take()
-    }
-
-    fn put(&mut self, driver: D) {
-        self.inside.put(driver);
-    }
-
-    fn slots(&self) -> u32 {
-        self.inside.slots()
-    }
-
-    fn sent(&self) -> u64 {
-        self.inside.sent()
-    }
-}
 
 /// What became of calls that were issued.
 #[derive(Drop)]
@@ -118,11 +38,10 @@ fn rail_of_sixteen<M: RailMaker<Limited>>(
     maker: &mut M,
     room: usize,
 ) -> Result<M::Made, NoMemory>
-    ensures home { IfOk result (λ rail. M.Made.home rail) }
-    ensures size { IfOk result (λ rail. M.Made.size rail ≡ 16) }
+    ensures launched { IfOk result (λ rail. IsLaunched (λ (st : RecorderView). st.tracked)
+        (M.Made.stands rail) (M.Made.failed rail) (M.Made.home rail) (M.Made.size rail)
+        first_tracked) }
     ensures sent { IfOk result (λ rail. M.Made.sent rail ≡ 0) }
-    ensures tracked { IfOk result (λ rail. (st : Limited) → M.Made.stands rail st
-        → st.tracked ≡ first_tracked) }
 {
     let driver = Limited {
         recorder: Recorder::new(alloc),
@@ -161,9 +80,8 @@ fn counting_front<M: RailMaker<Limited>>(
 
 /// A front over a rail, with 16 bytes of client memory.
 fn front_over<R: Rail<Limited>>(alloc: Global, rail: R) -> Result<Front<Limited, R>, NoMemory>
-    requires home { R.home rail }
-    requires size { IsBatchSize (R.size rail) }
-    requires tracked { (st : Limited) → R.stands rail st → st.tracked ≡ first_tracked }
+    requires launched { IsLaunched (λ (st : RecorderView). st.tracked)
+        (R.stands rail) (R.failed rail) (R.home rail) (R.size rail) first_tracked }
     ensures { IfOk result (λ front. (front.calls ≡ []) × (front.counts ≡ no_counts)
         × (R.sent front.rail ≡ R.sent rail)) }
 {
@@ -184,7 +102,7 @@ fn issue_each<T: Threads + Sync, R: Rail<Limited>>(
     requires new { front.old.counts ≡ no_counts }
     requires none_sent { R.sent front.old.rail ≡ 0 }
     ensures counts { AllHaveRoom front.new.counts }
-    ensures sent { HasRoom (R.sent front.new.rail) }
+    ensures sent { CanRise (R.sent front.new.rail) }
 {
     let mut answered = 0;
     for call in calls {
@@ -227,7 +145,7 @@ fn issue_alike<T: Threads + Sync, R: Rail<Limited>>(
     requires new { front.old.counts ≡ no_counts }
     requires none_sent { R.sent front.old.rail ≡ 0 }
     ensures counts { AllHaveRoom front.new.counts }
-    ensures sent { HasRoom (R.sent front.new.rail) }
+    ensures sent { CanRise (R.sent front.new.rail) }
 {
     let mut alike = 0;
     for (call, class, outcome, batches) in rows {
@@ -249,9 +167,8 @@ fn put_off<T: Threads + Sync, R: Rail<Limited>>(
     call: &Call,
 ) -> bool
     requires counts { AllHaveRoom front.old.counts }
-    requires sent { HasRoom (R.sent front.old.rail) }
-    ensures rises { AllRiseLittle front.old.counts front.new.counts }
-    ensures sent { RisesLittle (R.sent front.old.rail) (R.sent front.new.rail) }
+    requires sent { CanRise (R.sent front.old.rail) }
+    ensures rises { KeepsCount R.sent front.old front.new }
 {
     match front.class(call) {
         Class::Defer => {
@@ -400,192 +317,6 @@ const DEPTH: Call = Call::GetIntegerv {
     params: 8,
 };
 
-// Another program gives these numbers, counts and bytes, but where the driver for tests replies nothing. It writes
-// the replies to those calls past the end of client memory, as does the last get.
-#[test]
-fn a_get_of_tracked_state_is_answered_beside_calls_that_were_put_off(
-    rt: HostRuntime,
-) -> Result<(), Fail> {
-    let rows = [
-        (
-            Call::MatrixMode { mode: 0x9999 },
-            Class::Defer,
-            Outcome::Nothing,
-            0,
-        ),
-        (MODE, Class::Answer, Outcome::Number(5888), 0),
-        (Call::PushMatrix, Class::Defer, Outcome::Nothing, 0),
-        (DEPTH, Class::Answer, Outcome::Number(2), 0),
-        (
-            Call::VertexPointer {
-                size: 3,
-                kind: 0x140C,
-                stride: 8,
-                pointer: 100,
-            },
-            Class::Defer,
-            Outcome::Nothing,
-            0,
-        ),
-        (
-            Call::GetPointerv {
-                pname: 0x808E,
-                params: 0,
-            },
-            Class::Answer,
-            Outcome::Number(100),
-            0,
-        ),
-        (
-            Call::EnableClientState { array: 0x8074 },
-            Class::Defer,
-            Outcome::Nothing,
-            0,
-        ),
-        (
-            Call::IsEnabled { cap: 0x8074 },
-            Class::Answer,
-            Outcome::Number(1),
-            0,
-        ),
-        (
-            Call::PixelStorei {
-                pname: 0x0D05,
-                param: 1,
-            },
-            Class::Defer,
-            Outcome::Nothing,
-            0,
-        ),
-        (
-            Call::GetIntegerv {
-                pname: 0x0D05,
-                params: 14,
-            },
-            Class::Answer,
-            Outcome::Number(1),
-            0,
-        ),
-        (Call::GetError, Class::Sync, Outcome::Nothing, 1),
-        (
-            Call::GetIntegerv {
-                pname: 0x0D33,
-                params: 16,
-            },
-            Class::Sync,
-            Outcome::Nothing,
-            1,
-        ),
-        (
-            Call::GetFixedv {
-                pname: 0x0B00,
-                params: 16,
-            },
-            Class::Sync,
-            Outcome::Nothing,
-            1,
-        ),
-        (
-            Call::GetPointerv {
-                pname: 0x9999,
-                params: 16,
-            },
-            Class::Sync,
-            Outcome::Nothing,
-            1,
-        ),
-        (
-            Call::IsEnabled { cap: 0x0B44 },
-            Class::Sync,
-            Outcome::Nothing,
-            1,
-        ),
-        (
-            Call::ReadPixels {
-                x: 0,
-                y: 0,
-                width: 1,
-                height: 1,
-                format: 0x1908,
-                kind: 0x1401,
-                pixels: 16,
-            },
-            Class::Sync,
-            Outcome::Nothing,
-            1,
-        ),
-        (CLEAR, Class::Defer, Outcome::Nothing, 1),
-        (Call::Finish, Class::Sync, Outcome::Nothing, 2),
-        (Call::PopMatrix, Class::Defer, Outcome::Nothing, 2),
-        (
-            Call::GetIntegerv {
-                pname: 0x0BA3,
-                params: 16,
-            },
-            Class::Answer,
-            Outcome::Number(1),
-            2,
-        ),
-        (Call::Flush, Class::Defer, Outcome::Nothing, 3),
-    ];
-    let mut maker = InlineMaker::new();
-    let mut front = front_of_sixteen(rt.alloc(), &mut maker, 100)?;
-    front.write_memory(
-        0,
-        &[
-            0x00, 0x11, 0x22, 0x33, 0x44, 0x55, 0x66, 0x77, 0x88, 0x99, 0xAA, 0xBB, 0xCC, 0xDD,
-            0xEE, 0xFF,
-        ],
-    );
-    let alike = issue_alike(&rt, &mut front, &rows);
-    assert_eq!(rt; alike, rows.len());
-    assert_eq!(rt;
-        front.counts(),
-        Counts {
-            deferred: 8,
-            synchronised: 7,
-            answered: 6,
-            batches: 3,
-        }
-    );
-    let written = [100, 0, 0, 0, 0, 0x17, 0, 0, 2, 0, 0, 0, 0xCC, 0xDD, 1, 0];
-    assert_eq!(rt; front.memory().bytes(), written.as_slice());
-    Ok(())
-}
-
-// 5889 is PROJECTION: another program gives it, and its bytes.
-#[test]
-fn a_front_whose_driver_was_refused_memory_answers_until_a_call_waits(
-    rt: HostRuntime,
-) -> Result<(), Fail> {
-    let projection = Call::MatrixMode { mode: 0x1701 };
-    let rows = [
-        (projection, Class::Defer, Outcome::Nothing, 0),
-        (Call::Flush, Class::Defer, Outcome::Nothing, 1),
-        (MODE, Class::Answer, Outcome::Number(5889), 1),
-        (Call::GetError, Class::Sync, Outcome::Refused, 1),
-        (DEPTH, Class::Answer, Outcome::Refused, 1),
-        (CLEAR, Class::Defer, Outcome::Refused, 1),
-    ];
-    let mut maker = InlineMaker::new();
-    let mut front = front_of_sixteen(rt.alloc(), &mut maker, 0)?;
-    front.knows_tracked();
-    let alike = issue_alike(&rt, &mut front, &rows);
-    assert_eq!(rt; alike, rows.len());
-    assert_eq!(rt;
-        front.counts(),
-        Counts {
-            deferred: 2,
-            synchronised: 0,
-            answered: 1,
-            batches: 1,
-        }
-    );
-    let written = [0, 0, 0, 0, 1, 0x17, 0, 0, 0, 0, 0, 0, 0, 0, 0, 0];
-    assert_eq!(rt; front.memory().bytes(), written.as_slice());
-    Ok(())
-}
-
 #[test]
 fn calls_that_were_put_off_reach_the_driver_before_one_that_waits(
     rt: HostRuntime,
@@ -697,6 +428,7 @@ fn the_driver_is_taken_once_for_each_call_that_waits_and_for_no_other(
 fn client_memory_keeps_what_was_written_into_it(rt: HostRuntime) -> Result<(), Fail> {
     let mut maker = InlineMaker::new();
     let mut front = front_of_sixteen(rt.alloc(), &mut maker, 100)?;
+    assert_eq!(rt; front.slots(), 16);
     front.write_memory(14, &[7, 8, 9]);
     let written = [0, 0, 0, 0, 0, 0, 0, 0, 0, 0, 0, 0, 0, 0, 7, 8];
     assert_eq!(rt; front.memory().bytes(), written.as_slice());

@@ -1,6 +1,6 @@
 use Rattle.std.proofs.Common.{◌∙◌, arith}
 use Rattle.batch_pack.specs.Batch.{captured}
-use Rattle.batch_rail.proofs.Journals.{Told-along, Told-then}
+use Rattle.batch_rail.proofs.Journals.{Gains-along, Gains-then}
 use Rattle.gl_front.proofs.Cuttings.{ended_by-behind, open_by-behind, length-ended_by, none_first, none_second}
 use Rattle.gl_front.proofs.Failures.{FailsOnlyBy-along, FailsOnlyBy-then}
 use Rattle.gl_front.proofs.steps.put_off.Goals as goal
@@ -27,9 +27,9 @@ returns-clause-failed g c =
 
 pub returns-clause-journal : goal.returns-clause-journal
 returns-clause-journal g c =
-    Told-along _ _ _ _
+    Gains-along _ _ _ _
     (ended_by-behind c.args.batch.size c.args.batch.calls (captured c.args.call.now c.args.pieces.now c.args.memory.now) c.put_behind-batch.result.0.calls c.put_behind-batch.ensures.calls)
-    (Told-then _ _ _ _ _ c.put_behind-batch.ensures.journal c.submit_if_sent-batch.ensures.journal)
+    (Gains-then _ _ _ _ _ c.put_behind-batch.ensures.journal c.submit_if_sent-batch.ensures.journal)
 
 pub returns-clause-kept : goal.returns-clause-kept
 returns-clause-kept g c =

@@ -1,9 +1,9 @@
 use Rattle.std.proofs.Common.{◌≤◌, List, length, ap, sym, ◌∙◌, arith}
 use Rattle.batch_pack.specs.Spelling.{Spelled}
 use Rattle.batch_pack.specs.Batch.{slots_used}
-use Rattle.batch_pack.specs.Cutting.{batch_unless_empty}
+use Rattle.client_shadow.specs.Cutting.{batch_unless_empty}
 use Rattle.batch_rail.proofs.Runs.{RunsFrom-from_nil}
-use Rattle.batch_rail.proofs.Journals.{Told-none, Told-along}
+use Rattle.batch_rail.proofs.Journals.{Gains-none, Gains-along}
 use Rattle.gl_front.proofs.Cuttings.{nil_from_slots, some_from_slots, empty_from_nil}
 use Rattle.gl_front.proofs.steps.submit_unless_empty.Goals as goal
 
@@ -21,7 +21,7 @@ returns-then-used-eq0-clause-stands g c =
 
 pub returns-then-used-eq0-clause-journal : goal.returns-then-used-eq0-clause-journal
 returns-then-used-eq0-clause-journal g c =
-    Told-none _ _ (ap batch_unless_empty (nil_from_slots c.args.batch.calls (sym c.used.ensures.used ∙ c.if-used-eq0.true)))
+    Gains-none _ _ (ap batch_unless_empty (nil_from_slots c.args.batch.calls (sym c.used.ensures.used ∙ c.if-used-eq0.true)))
 
 pub returns-clause-count : goal.returns-clause-count
 returns-clause-count g c =
@@ -31,7 +31,7 @@ returns-clause-count g c =
 pub returns-clause-journal : goal.returns-clause-journal
 returns-clause-journal g c =
     let some : 1 ≤ slots_used c.args.batch.calls = omega (arith, c.used.ensures.used) in
-    Told-along _ _ _ _ (sym (some_from_slots c.args.batch.calls some)) c.submit.ensures.journal
+    Gains-along _ _ _ _ (sym (some_from_slots c.args.batch.calls some)) c.submit.ensures.journal
 
 pub returns-clause-kept : goal.returns-clause-kept
 returns-clause-kept g c =

@@ -1,7 +1,7 @@
-use Rattle.std.proofs.Common.{◌*◌, ◌≤◌}
+use Rattle.std.proofs.Common.{◌≡◌, ◌*◌, ◌≤◌}
 use Rattle.gl_front.proofs.tests.issue_each.Given as goal
 
--- each call raises each number by at most two
+-- each call raises each count by at most two, and as many batches are sent as are counted
 abbrev pub invariant-loop-call : goal.invariant-loop-call
 invariant-loop-call g l = record {
   deferred : l.front.counts.deferred ≤ 2 * l.call-index;
@@ -9,5 +9,5 @@ invariant-loop-call g l = record {
   answered : l.front.counts.answered ≤ 2 * l.call-index;
   batches : l.front.counts.batches ≤ 2 * l.call-index;
   given : l.answered ≤ l.call-index;
-  sent : g.R.RailState.sent l.front.rail ≤ 2 * l.call-index;
+  sent : g.R.RailState.sent l.front.rail ≡ l.front.counts.batches;
 }

@@ -1,35 +1,25 @@
-use Rattle.std.proofs.Common.{rules, ◌≡◌, [], ◌∷◌, None, Some, sym, ◌∙◌, w64, to_z, of_z}
+use Rattle.std.proofs.Common.{rules, ◌≡◌, [], ◌∷◌, Some, ap, sym, ◌∙◌, w64, to_z, of_z}
 use Rattle.gl_memory.specs.ClientMemory.{memory_of}
 use Rattle.driver_trait.specs.Reply.{Numbers}
-use Rattle.driver_trait.specs.Step.{number_asked}
-use Rattle.client_shadow.proofs.Classes.{number_asked-answer}
+use Rattle.driver_trait.specs.Output.{memory_after}
+use Rattle.gl_tracked.specs.declared.tracked.Tracked.{Tracked}
+use Rattle.gl_tracked.proofs.Stepping.{tracked_after-asked}
+use Rattle.client_shadow.proofs.Classes.{class_of-number}
+use Rattle.gl_front.specs.Front.{FrontView}
 use Rattle.gl_front.specs.FrontState.{open_calls}
-use Rattle.gl_front.proofs.Fronts.{carries_answered, knows_on}
+use Rattle.gl_front.proofs.Fronts.{carries_answered}
+use Rattle.gl_front.proofs.Takings.{takes-answer}
 use Rattle.gl_front.proofs.front.Front.answer.Goals as goal
 
-pub unreachable-requires : goal.unreachable-requires
-unreachable-requires g c =
-    let some = (number_asked-answer c.self.inside.shadow c.args.call.now (memory_of c.self.inside.memory) _ (rw (← c.self.view_is) at c.requires.class)).1 in
-    let none : number_asked c.self.inside.shadow c.args.call.now ≡ None = sym c.answer.ensures.answer ∙ c.in_default.is in
-    absurd (cc)
-
-pub invariant_of-self : goal.invariant_of-self
-invariant_of-self g c =
-    let rail = c.self.inside.rail in
-    let calls = open_calls c.self.inside.batch in
-    let memory = c.self.inside.memory in
-    let known = c.self.inside.shadow in
-    let asked : number_asked known c.args.call.now ≡ Some c.in-Some.number = sym c.answer.ensures.answer ∙ c.in-Some.is in
-    let carries = carries_answered g.R.RailState.stands g.D.Machine.tracked g.D.Machine.steps g.D.Machine.laws rail calls memory known c.args.call.now c.in-Some.number c.in_range.ensures c.bytes.ensures.small c.self.invariant.1 asked in
-    (c.self.invariant.0, knows_on g.R.RailState.stands g.D.Machine.tracked g.D.Machine.steps g.D.Machine.laws rail rail calls calls memory known c.take_reply.new.shadow c.args.call.now (Numbers (c.in-Some.number ∷ [])) c.in_range.ensures c.bytes.ensures.small c.self.invariant.1 carries c.take_reply.ensures.tracked)
-
-pub returns-clause-carries : goal.returns-clause-carries
-returns-clause-carries g c =
-    let rail = c.self.inside.rail in
-    let calls = open_calls c.self.inside.batch in
-    let memory = c.self.inside.memory in
-    let known = c.self.inside.shadow in
-    let asked : number_asked known c.args.call.now ≡ Some c.in-Some.number = sym c.answer.ensures.answer ∙ c.in-Some.is in
-    let same : to_z w64 (of_z w64 c.in-Some.number) ≡ c.in-Some.number = search rules in
-    rw (← c.self.view_is, same)
-    (carries_answered g.R.RailState.stands g.D.Machine.tracked g.D.Machine.steps g.D.Machine.laws rail calls memory known c.args.call.now c.in-Some.number c.in_range.ensures c.bytes.ensures.small c.self.invariant.1 asked)
+pub returns-clause-taken : goal.returns-clause-taken
+returns-clause-taken g c =
+    let front : FrontView g.row.R.Denot = record { rail = c.self.inside.rail; size = g.R.RailState.size c.self.inside.rail; calls = open_calls c.self.inside.batch; memory = c.self.inside.memory; tracked = c.self.inside.shadow; refused = c.self.inside.refused; counts = c.self.inside.counts } in
+    let asked = rw (← c.self.view_is) at c.requires.asked in
+    let class = class_of-number c.self.inside.shadow c.args.call.now (memory_of c.self.inside.memory) (g.R.RailState.size c.self.inside.rail) c.args.number asked in
+    let same : to_z w64 (of_z w64 c.args.number) ≡ c.args.number = search rules in
+    let carries = carries_answered g.R.RailState.stands g.D.Machine.tracked g.D.Machine.steps g.D.Machine.laws front.rail front.calls front.memory front.tracked c.args.call.now (to_z w64 (of_z w64 c.args.number)) c.requires.in_range c.bytes.ensures.small c.self.invariant.1 (asked ∙ ap Some (sym same)) in
+    rw (← c.self.view_is)
+    (takes-answer g.R.RailState.stands g.D.Machine.tracked g.R.RailState.failed g.R.RailState.journal g.R.RailState.sent g.D.Machine.steps front c.args.call.now
+    (Numbers (to_z w64 (of_z w64 c.args.number) ∷ [])) c.self.inside.shadow c.write_reply.new.memory class carries
+    (sym (tracked_after-asked front.tracked c.args.call.now (memory_of front.memory) c.args.number asked))
+    (c.write_reply.ensures ∙ ap (λ (t : Tracked). memory_after t c.args.call.now (Numbers (to_z w64 (of_z w64 c.args.number) ∷ [])) front.memory) c.tracked.ensures.tracked))
