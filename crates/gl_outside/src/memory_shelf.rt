@@ -85,6 +85,7 @@ impl Shelf for MemoryShelf {
     fn put(&mut self, name: &str, bytes: &[u8]) -> Result<(), OutError>
         ensures ok { OnOk result
             (Adds (Some self.old.list) (Some self.new.list) ((name.now, bytes.now) ∷ [])) }
+        ensures kept { OnOk result (self.new.plan.faults ≡ self.old.plan.faults) }
         ensures failed { IsErrOf result OutError.Failed
             → Rose self.old.plan.faults self.new.plan.faults }
         ensures err { OnErr result (self.new.list ≡ self.old.list) }

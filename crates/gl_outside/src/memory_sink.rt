@@ -1,5 +1,5 @@
 // A sink in memory whose chosen calls fail, and which takes few bytes at once.
-ghost use Rattle.std.specs.Prelude.{◌≡◌, ◌<◌, ◌≤◌, ◌↔◌, ◌^◌, [], length, take, min, IsTrue, IfOk, OnErr, IsErrOf};
+ghost use Rattle.std.specs.Prelude.{◌≡◌, ◌<◌, ◌≤◌, ◌↔◌, ◌^◌, [], length, take, min, IsTrue, IfOk, OnOk, OnErr, IsErrOf};
 ghost use Rattle.gl_outside.specs.Faults.{Rose};
 ghost use Rattle.gl_outside.specs.Memory.{fails_next, after_call};
 ghost use Rattle.gl_outside.specs.Moved.{Adds};
@@ -71,6 +71,7 @@ impl Sink for MemorySink {
             (λ n. Adds (Some self.old.held) (Some self.new.held) (take n bytes.now)) }
         ensures within { IfOk result (λ n. n ≤ length bytes.now) }
         ensures some { IfOk result (λ n. 0 < length bytes.now → 0 < n) }
+        ensures kept { OnOk result (self.new.plan.faults ≡ self.old.plan.faults) }
         ensures failed { IsErrOf result OutError.Failed
             → Rose self.old.plan.faults self.new.plan.faults }
         ensures err { OnErr result (self.new.held ≡ self.old.held) }

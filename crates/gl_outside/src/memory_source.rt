@@ -1,5 +1,5 @@
 // A source in memory whose chosen calls fail, and which moves few bytes at once.
-ghost use Rattle.std.specs.Prelude.{◌≡◌, ◌<◌, ◌≤◌, ◌^◌, [], length, take, min, IfOk, OnErr, is_err};
+ghost use Rattle.std.specs.Prelude.{◌≡◌, ◌<◌, ◌≤◌, ◌^◌, [], length, take, min, IfOk, OnOk, OnErr, is_err};
 ghost use Rattle.gl_outside.specs.Faults.{Rose};
 ghost use Rattle.gl_outside.specs.Memory.{fails_next, after_call};
 ghost use Rattle.gl_outside.specs.Moved.{Takes};
@@ -71,6 +71,7 @@ impl Source for MemorySource {
             (λ n. Takes (Some self.old.left) (Some self.new.left) (take n buf.new)) }
         ensures within { IfOk result (λ n. n ≤ length buf.old) }
         ensures end { IfOk result (λ n. n ≡ 0 → self.new.left ≡ []) }
+        ensures kept { OnOk result (self.new.plan.faults ≡ self.old.plan.faults) }
         ensures failed { OnErr result (Rose self.old.plan.faults self.new.plan.faults) }
         ensures err { OnErr result (self.new.left ≡ self.old.left) }
         ensures count { self.old.plan.faults ≤ self.new.plan.faults }

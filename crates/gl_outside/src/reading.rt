@@ -1,5 +1,5 @@
 // Reading all there is, up to a limit.
-ghost use Rattle.std.specs.Prelude.{◌≡◌, ◌≤◌, ◌<◌, length, IfOk, IfSome, OnErr, IsErrOf};
+ghost use Rattle.std.specs.Prelude.{◌≡◌, ◌≤◌, ◌<◌, length, IfOk, IfSome, OnOk, OnErr, IsErrOf};
 ghost use Rattle.gl_outside.specs.Faults.{Rose};
 ghost use Rattle.gl_outside.specs.Moved.{Takes, TakesAtMost, IsAtEnd};
 
@@ -23,6 +23,7 @@ pub fn read_up_to<S: Source>(
         → IfSome (S.left source.old) (λ left. left ≡ bytes.items)) }
     ensures within { IfOk result (λ bytes. length bytes.items ≤ limit) }
     ensures end { IfOk result (λ bytes. length bytes.items < limit → IsAtEnd (S.left source.new)) }
+    ensures kept { OnOk result (S.faults source.new ≡ S.faults source.old) }
     ensures failed { IsErrOf result ReadError.Failed
         → Rose (S.faults source.old) (S.faults source.new) }
     ensures err { OnErr result (TakesAtMost limit (S.left source.old) (S.left source.new)) }

@@ -17,6 +17,7 @@ pub trait Shelf: Drop {
     fn put(&mut self, name: &str, bytes: &[u8]) -> Result<(), OutError>
         ensures ok { OnOk result
             (Adds (list self.old) (list self.new) ((name.now, bytes.now) ∷ [])) }
+        ensures kept { OnOk result (faults self.new ≡ faults self.old) }
         ensures failed { IsErrOf result OutError.Failed → Rose (faults self.old) (faults self.new) }
         ensures err { OnErr result (list self.new ≡ list self.old) }
         ensures count { faults self.old ≤ faults self.new }

@@ -1,5 +1,5 @@
 // What is written to. What it holds can't be taken back.
-ghost use Rattle.std.specs.Prelude.{◌≡◌, ℕ, ◌≤◌, ◌<◌, ◌^◌, List, Option, length, take, IfOk, OnErr, IsErrOf};
+ghost use Rattle.std.specs.Prelude.{◌≡◌, ℕ, ◌≤◌, ◌<◌, ◌^◌, List, Option, length, take, IfOk, OnOk, OnErr, IsErrOf};
 ghost use Rattle.gl_outside.specs.Faults.{Rose};
 ghost use Rattle.gl_outside.specs.Moved.{Adds};
 
@@ -19,6 +19,7 @@ pub trait Sink: Drop {
         ensures ok { IfOk result (λ n. Adds (held self.old) (held self.new) (take n bytes.now)) }
         ensures within { IfOk result (λ n. n ≤ length bytes.now) }
         ensures some { IfOk result (λ n. 0 < length bytes.now → 0 < n) }
+        ensures kept { OnOk result (faults self.new ≡ faults self.old) }
         ensures failed { IsErrOf result OutError.Failed → Rose (faults self.old) (faults self.new) }
         ensures err { OnErr result (held self.new ≡ held self.old) }
         ensures count { faults self.old ≤ faults self.new }

@@ -1,5 +1,5 @@
 // What is read from. It doesn't say when more comes, and a read can't be taken back.
-ghost use Rattle.std.specs.Prelude.{◌≡◌, ℕ, ◌≤◌, ◌<◌, ◌^◌, List, Option, length, take, IfOk, OnErr};
+ghost use Rattle.std.specs.Prelude.{◌≡◌, ℕ, ◌≤◌, ◌<◌, ◌^◌, List, Option, length, take, IfOk, OnOk, OnErr};
 ghost use Rattle.gl_outside.specs.Faults.{Rose};
 ghost use Rattle.gl_outside.specs.Moved.{Takes, IsAtEnd};
 
@@ -20,6 +20,7 @@ pub trait Source: Drop {
         ensures ok { IfOk result (λ n. Takes (left self.old) (left self.new) (take n buf.new)) }
         ensures within { IfOk result (λ n. n ≤ length buf.old) }
         ensures end { IfOk result (λ n. n ≡ 0 → IsAtEnd (left self.new)) }
+        ensures kept { OnOk result (faults self.new ≡ faults self.old) }
         ensures failed { OnErr result (Rose (faults self.old) (faults self.new)) }
         ensures err { OnErr result (left self.new ≡ left self.old) }
         ensures count { faults self.old ≤ faults self.new }

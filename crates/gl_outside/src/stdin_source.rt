@@ -47,13 +47,13 @@ impl<R: Input> Source for StdinSource<R> {
         ensures ok { IfOk result (λ n. Takes {X = ℕ} untold untold (take n buf.new)) }
         ensures within { IfOk result (λ n. n ≤ length buf.old) }
         ensures end { IfOk result (λ n. n ≡ 0 → IsAtEnd {X = ℕ} untold) }
+        ensures kept { OnOk result (self.new ≡ self.old) }
         ensures failed { OnErr result (Rose self.old self.new) }
         ensures err { OnErr result (untold {X = ℕ} ≡ untold) }
         ensures count { self.old ≤ self.new }
         ensures range { self.new < 2 ^ 64 }
 
-        // What this form does beyond what a source owes: only what failed is counted, once.
-        ensures kept { OnOk result (self.new ≡ self.old) }
+        // What this form does beyond what a source owes: what failed is counted once.
         ensures counted { OnErr result (self.new ≡ one_more self.old) }
     {
         match read_uninterrupted(&mut self.reader, buf) {

@@ -44,13 +44,13 @@ impl<R: Print + Drop> Sink for StdoutSink<R> {
         ensures ok { IfOk result (λ n. Adds {X = ℕ} untold untold (take n bytes.now)) }
         ensures within { IfOk result (λ n. n ≤ length bytes.now) }
         ensures some { IfOk result (λ n. 0 < length bytes.now → 0 < n) }
+        ensures kept { OnOk result (self.new ≡ self.old) }
         ensures failed { IsErrOf result OutError.Failed → Rose self.old self.new }
         ensures err { OnErr result (untold {X = ℕ} ≡ untold) }
         ensures count { self.old ≤ self.new }
         ensures range { self.new < 2 ^ 64 }
 
-        // What this form does beyond what a sink owes: only what failed is counted, once.
-        ensures kept { OnOk result (self.new ≡ self.old) }
+        // What this form does beyond what a sink owes: what failed is counted once.
         ensures counted { OnErr result (self.new ≡ one_more self.old) }
     {
         match write_uninterrupted(&self.rt, bytes) {

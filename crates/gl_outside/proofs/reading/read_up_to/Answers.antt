@@ -1,4 +1,4 @@
-use Rattle.std.proofs.Common.{◌≡◌, ℕ, ◌++◌, ◌∙◌, take, length, ap, sym, arith, rules, length-append, Result, Ok, Err}
+use Rattle.std.proofs.Common.{◌≡◌, ℕ, ◌++◌, ◌∙◌, take, length, ap, sym, rules, length-append, Result, Ok, Err}
 use Rattle.gl_outside.specs.Moved.{TakesAtMost}
 use Rattle.std.specs.Prelude.{OnErr}
 use Rattle.gl_outside.proofs.Outside.{Takes-append}
@@ -10,7 +10,7 @@ reading-preserved g c = record {
       rw (c.in_ok-extend_from_slice.ensures.items, c.split_at.ensures.front)
       (Takes-append _ _ _ _ _ c.reading.invariant.taken c.in_ok-n.ensures.ok);
   within = search rules;
-  count = omega (arith, c.in_ok-n.ensures.count);
+  kept = c.in_ok-n.ensures.kept ∙ c.reading.invariant.kept;
 }
 
 -- a fact that holds anyway holds at an error

@@ -1,4 +1,4 @@
-use Rattle.std.proofs.Common.{◌≤◌, ◌-◌, length}
+use Rattle.std.proofs.Common.{◌≡◌, ◌≤◌, ◌-◌, length}
 use Rattle.gl_outside.specs.Moved.{Takes}
 use Rattle.gl_outside.proofs.reading.read_up_to.Given as goal
 
@@ -6,7 +6,7 @@ abbrev pub invariant-reading : goal.invariant-reading
 invariant-reading g l = record {
   taken : Takes (g.S.Source.left l.fn.source) (g.S.Source.left l.source) l.bytes.items;
   within : length l.bytes.items ≤ l.limit;
-  count : g.S.Source.faults l.fn.source ≤ g.S.Source.faults l.source;
+  kept : g.S.Source.faults l.source ≡ g.S.Source.faults l.fn.source;
 }
 
 abbrev pub decreases-reading : goal.decreases-reading
