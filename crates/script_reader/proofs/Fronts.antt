@@ -1,12 +1,19 @@
 -- Numbers read one after another: those so far, before those that are left.
-use Rattle.std.proofs.Common.{◌≡◌, ℕ, ◌+◌, ◌<◌, ◌≤◌, ℤ, List, [], ◌∷◌, ◌++◌, length, get_or, drop, append_assoc, refl, sym, ap, ◌∙◌, Some, None, Option}
+use Rattle.std.proofs.Common.{◌≡◌, ℕ, ◌+◌, ◌<◌, ◌≤◌, ℤ, List, [], ◌∷◌, ◌++◌, length, get_or, drop, append_assoc, refl, sym, ap, ◌∙◌, Some, None, Option, Err, Bool, true, false, cond, eqb, ◌≢◌, arith}
+use Rattle.std.specs.Option.{ok_or}
+use Rattle.std.proofs.lemmas.Bool.{eqb-true, eqb-false}
+use Rattle.std.proofs.lemmas.Bool.Decides.{nat_tests}
+use Rattle.script_reader.specs.declared.error.ScriptFault.TheVariants.{BadNumber, WrongCount, OutOfRange}
 use Rattle.std.specs.Prelude.{option_and_then}
 use Rattle.std.proofs.lemmas.List.{append-nil, drop_more, drop_all}
 use Rattle.std.specs.Option.{option_map}
 use Rattle.gl_words.specs.declared.shape.ArgKind.{ArgKind}
 use Rattle.gl_words.specs.declared.shape.ArgKind.TheVariants.{Enum}
 use Rattle.script_reader.specs.Number.{number_of, argument_of}
-use Rattle.script_reader.specs.Judged.{numbers_of, arguments_of, value_of}
+use Rattle.script_reader.specs.Judged.{◌>>=◌, numbers_of, arguments_of, value_of, judged_arguments, judged_call, body_in}
+use Rattle.gl_words.specs.CallOf.{call_of}
+use Rattle.script_reader.specs.declared.before.Before.{Before}
+use Rattle.script_reader.specs.declared.script.Act.TheVariants.{Gl}
 
 -- the numbers so far, and those that are left, where each word spells one
 abbrev pub behind : List ℤ → Option (List ℤ) → Option (List ℤ)
@@ -81,3 +88,40 @@ arguments_step front kinds i kind words word after number all within first some 
 pub arguments_done : (front : List ℤ) (kinds : List ArgKind) (i : ℕ) (words : List (List ℕ)) (all : Option (List ℤ)) → length kinds ≤ i → behind front (arguments_of (drop i kinds) words) ≡ all → Some front ≡ all
 arguments_done front kinds i words all past whole =
     sym (arguments_of-end front words) ∙ ap (λ (ks : List ArgKind). behind front (arguments_of ks words)) (sym (drop_all i kinds past)) ∙ whole
+
+-- what is judged of the arguments of a call
+by_truth : {P : Type 0} (b : Bool) → (b ≡ true → P) → (b ≡ false → P) → P
+by_truth true if_true if_false = if_true refl
+by_truth false if_true if_false = if_false refl
+
+eqb-same : (one other : ℕ) → one ≡ other → eqb one other ≡ true
+eqb-same one other h = grind (arith, nat_tests)
+
+eqb-not : (one other : ℕ) → one ≢ other → eqb one other ≡ false
+eqb-not one other h = by_truth (eqb one other) (λ is. absurd (h (eqb-true one other is))) (λ not. not)
+
+module _ (kinds : List ArgKind) (words : List (List ℕ)) where
+  pub judged_arguments-wrong : length words ≢ length kinds → Err WrongCount ≡ judged_arguments kinds words
+  unfolding judged_arguments
+  judged_arguments-wrong other = rw (eqb-not (length words) (length kinds) other) refl
+
+  pub judged_arguments-read : (all : Option (List ℤ)) → length words ≡ length kinds → all ≡ arguments_of kinds words → ok_or all BadNumber ≡ judged_arguments kinds words
+  unfolding judged_arguments
+  judged_arguments-read all same is = rw (eqb-same (length words) (length kinds) same) (ap (λ (o : Option (List ℤ)). ok_or o BadNumber) is)
+
+  -- where a word spells no number, the words behind it are counted
+  pub judged_arguments-behind : (after : List (List ℕ)) (count i : ℕ) → length words ≡ i + 1 + length after → length kinds ≡ i + 1 + count → None ≡ arguments_of kinds words
+      → Err (cond (eqb (length after) count) BadNumber WrongCount) ≡ judged_arguments kinds words
+  judged_arguments-behind after count i many left none =
+      by_truth (eqb (length after) count)
+      (λ is. let same = eqb-true (length after) count is in rw is (judged_arguments-read None (omega arith) none))
+      (λ not. let other : length after ≢ count = eqb-false (length after) count not in rw not (judged_arguments-wrong (omega arith)))
+
+-- a call is judged by its arguments first
+pub judged_call-arguments : (before : Before) (context id : ℕ) (kinds : List ArgKind) (words : List (List ℕ))
+    → judged_call before context id kinds words ≡ (judged_arguments kinds words >>= (λ numbers. ok_or (call_of id numbers) OutOfRange >>= (λ call. body_in before context (Gl call))))
+unfolding judged_call judged_arguments
+judged_call-arguments before context id kinds words =
+    by_truth (eqb (length words) (length kinds)) (λ is. rw is refl) (λ not. rw not refl)
+
+pub ruleset judged = (judged_call-arguments)

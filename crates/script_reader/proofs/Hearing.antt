@@ -6,7 +6,7 @@ use Rattle.std.proofs.lemmas.List.Folds.{list_any-append}
 use Rattle.std.proofs.lemmas.List.Sums.{sum_by_push}
 use Rattle.script_reader.specs.ImageBytes.{said_bytes}
 use Rattle.script_reader.specs.Judged.{judged_within}
-use Rattle.script_reader.specs.Grammar.{before_of, contexts_in, lines_in, numbered, and_then, all_said, script_of, script_said, says_something, is_context, is_body, is_end}
+use Rattle.script_reader.specs.Grammar.{before_of, contexts_in, lines_said, numbered, and_then, all_said, script_of, script_said, says_something, is_context, is_body, is_end}
 use Rattle.script_reader.specs.Heard.{IsHeard, RefusesAs, after}
 use Rattle.script_reader.specs.declared.before.Before.{Before}
 use Rattle.script_reader.specs.declared.before.Said.{Said}
@@ -55,7 +55,7 @@ contexts_in-push (Context context ∷ saids) said = ap (λ (contexts : List Cont
 contexts_in-push (Body line ∷ saids) said = contexts_in-push saids said
 contexts_in-push (End ∷ saids) said = contexts_in-push saids said
 
-pub lines_in-push : (saids : List Said) (said : Said) → lines_in (saids ++ said ∷ []) ≡ lines_in saids ++ lines_in (said ∷ [])
+pub lines_in-push : (saids : List Said) (said : Said) → lines_said (saids ++ said ∷ []) ≡ lines_said saids ++ lines_said (said ∷ [])
 lines_in-push [] said = refl
 lines_in-push (Nothing ∷ saids) said = lines_in-push saids said
 lines_in-push (Header ∷ saids) said = lines_in-push saids said
@@ -63,10 +63,10 @@ lines_in-push (Context context ∷ saids) said = lines_in-push saids said
 lines_in-push (Body line ∷ saids) said = ap (λ (lines : List Line). line ∷ lines) (lines_in-push saids said)
 lines_in-push (End ∷ saids) said = lines_in-push saids said
 
-pub IsHeard-push : (old new : Heard) (saids : List Said) (said : Said) → new.contexts ≡ old.contexts ++ contexts_in (said ∷ []) → new.lines ≡ old.lines ++ lines_in (said ∷ []) → new.before ≡ after old.before said → IsHeard old saids → IsHeard new (saids ++ said ∷ [])
+pub IsHeard-push : (old new : Heard) (saids : List Said) (said : Said) → new.contexts ≡ old.contexts ++ contexts_in (said ∷ []) → new.lines ≡ old.lines ++ lines_said (said ∷ []) → new.before ≡ after old.before said → IsHeard old saids → IsHeard new (saids ++ said ∷ [])
 IsHeard-push old new saids said contexts lines before heard = record {
   same_contexts = contexts ∙ ap (λ (cs : List ContextSpec). cs ++ contexts_in (said ∷ [])) heard.same_contexts ∙ sym (contexts_in-push saids said);
-  same_lines = lines ∙ ap (λ (ls : List Line). ls ++ lines_in (said ∷ [])) heard.same_lines ∙ sym (lines_in-push saids said);
+  same_lines = lines ∙ ap (λ (ls : List Line). ls ++ lines_said (said ∷ [])) heard.same_lines ∙ sym (lines_in-push saids said);
   same_before = before ∙ ap (λ (b : Before). after b said) heard.same_before ∙ sym (before_of-push saids said);
 }
 
@@ -145,7 +145,7 @@ pub all_is_heard : (heard : Heard) (at : ℕ) (saids : List Said) (rest bytes : 
 unfolding script_of
 all_is_heard heard at saids rest bytes is none ended whole =
     ap (λ r. and_then r script_said) (sym whole ∙ ap (all_said at saids) (lines_of-empty rest none) ∙ all_said-end at saids (sym (ended_heard heard saids is) ∙ ended))
-    ∙ ap (λ (cs : List ContextSpec). script_with cs (lines_in saids)) (sym is.same_contexts)
+    ∙ ap (λ (cs : List ContextSpec). script_with cs (lines_said saids)) (sym is.same_contexts)
     ∙ ap (λ (ls : List Line). script_with heard.contexts ls) (sym is.same_lines)
 
 -- no line is left, and no `end` came

@@ -6,7 +6,7 @@ use Rattle.std.proofs.lemmas.Bool.{and_parts}
 use Rattle.std.proofs.lemmas.Bool.Decides.{nat_tests}
 use Rattle.std.proofs.lemmas.List.Elements.{All-nil, All-cons}
 use Rattle.std.proofs.Math.Seq.{take-length}
-use Rattle.driver_trait.specs.Room.{Roomy}
+use Rattle.gl_memory.specs.Room.{RoomView}
 use Rattle.std.specs.Prelude.{nat_lt, ◌==◌}
 use Rattle.script_reader.specs.Hex.{are_pairs, paired}
 use Rattle.script_reader.specs.Number.{hex_digit}
@@ -35,10 +35,10 @@ paired-more [] some = absurd (omega arith)
 paired-more (high ∷ []) some = absurd (omega arith)
 paired-more (high ∷ low ∷ digits) some = ap (λ (ds : List ℕ). (16 * hex_digit high + hex_digit low) ∷ paired ds) (sym (take_all_but_two digits))
 
-pub paired-push : (old new : Roomy ℕ) (rest all : List ℕ) (high low : ℕ) → 2 ≤ length rest → high ≡ hex_digit (get_or rest 0 0) → low ≡ hex_digit (get_or rest 1 0) → new ≡ record { items = old.items ++ (16 * high + low) ∷ []; room = old.room } → old.items ++ paired rest ≡ all → new.items ++ paired (take (length rest - 2) (drop 2 rest)) ≡ all
+pub paired-push : (old new : RoomView ℕ) (rest all : List ℕ) (high low : ℕ) → 2 ≤ length rest → high ≡ hex_digit (get_or rest 0 0) → low ≡ hex_digit (get_or rest 1 0) → new ≡ record { items = old.items ++ (16 * high + low) ∷ []; room = old.room } → old.items ++ paired rest ≡ all → new.items ++ paired (take (length rest - 2) (drop 2 rest)) ≡ all
 paired-push old new rest all high low some first second pushed whole =
     let left = paired (take (length rest - 2) (drop 2 rest)) in
-    ap (λ (o : Roomy ℕ). o.items ++ left) pushed
+    ap (λ (o : RoomView ℕ). o.items ++ left) pushed
     ∙ append_assoc old.items ((16 * high + low) ∷ []) left
     ∙ ap (λ (h : ℕ). old.items ++ (16 * h + low) ∷ left) first
     ∙ ap (λ (l : ℕ). old.items ++ (16 * hex_digit (get_or rest 0 0) + l) ∷ left) second

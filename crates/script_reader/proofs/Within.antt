@@ -5,7 +5,7 @@ use Rattle.std.proofs.lemmas.Bool.{or_from, cond_both, ltb-false, leb-false}
 use Rattle.std.proofs.lemmas.List.Elements.{All-nil, All-cons, All-append}
 use Rattle.std.proofs.lemmas.List.Sums.{sum_by-cons, sum_by_push}
 use Rattle.script_reader.specs.Cutting.{lines_of, text_of}
-use Rattle.script_reader.specs.Grammar.{before_of, contexts_in, lines_in, numbered, and_then, all_said, script_of, script_said, is_context, is_end}
+use Rattle.script_reader.specs.Grammar.{before_of, contexts_in, lines_said, numbered, and_then, all_said, script_of, script_said, is_context, is_end}
 use Rattle.script_reader.specs.Heard.{Reads, after}
 use Rattle.script_reader.specs.ImageBytes.{context_bytes, line_bytes, said_bytes}
 use Rattle.script_reader.specs.Judged.{◌>>=◌, judged, within_image_bytes, judged_within}
@@ -81,7 +81,7 @@ counted-push n contexts (Body line) h = omega (arith, length-append contexts [])
 counted-push n contexts End h = omega (arith, length-append contexts [])
 
 -- a body line that was said is within its limits
-lines_in-are : (before : Before) (said : Said) → Fits before said → All IsLine (lines_in (said ∷ []))
+lines_in-are : (before : Before) (said : Said) → Fits before said → All IsLine (lines_said (said ∷ []))
 lines_in-are before Nothing fits = All-nil IsLine
 lines_in-are before Header fits = All-nil IsLine
 lines_in-are before (Context context) fits = All-nil IsLine
@@ -93,7 +93,7 @@ record AreSaid (at : ℕ) (saids : List Said) : Type 0 where
   few_bytes : at ≤ 8388608
   few_lines : length saids ≤ 262144
   small_images : sum_by said_bytes saids ≤ 67108864
-  lines : All IsLine (lines_in saids)
+  lines : All IsLine (lines_said saids)
   counted : (before_of saids).contexts ≡ length (contexts_in saids)
   few_contexts : IsFew (contexts_in saids) (before_of saids).ended
 
@@ -134,7 +134,7 @@ AreSaid-push at saids line said are is =
           omega (arith, sum_by_push said_bytes saids said, before_of-images saids);
       lines =
           subst (λ (ls : List Line). All IsLine ls) (sym (lines_in-push saids said))
-          (All-append IsLine (lines_in saids) (lines_in (said ∷ [])) are.lines (lines_in-are (before_of saids) said is.fits));
+          (All-append IsLine (lines_said saids) (lines_said (said ∷ [])) are.lines (lines_in-are (before_of saids) said is.fits));
       counted =
           ap (λ (b : Before). b.contexts) before
           ∙ counted-push ((before_of saids).contexts) (contexts_in saids) said are.counted
@@ -163,7 +163,7 @@ bytes_in-lines_of (byte ∷ bytes) =
     (λ e. omega (arith, bytes_in-lines_of bytes))
     (λ e. omega (arith, bytes_in-lines_of bytes, bytes_in-onto_first byte (lines_of bytes)))
 
-lines_in-few : (saids : List Said) → length (lines_in saids) ≤ length saids
+lines_in-few : (saids : List Said) → length (lines_said saids) ≤ length saids
 lines_in-few [] = omega arith
 lines_in-few (Nothing ∷ saids) = omega (arith, lines_in-few saids)
 lines_in-few (Header ∷ saids) = omega (arith, lines_in-few saids)
@@ -172,14 +172,14 @@ lines_in-few (Body line ∷ saids) = omega (arith, lines_in-few saids)
 lines_in-few (End ∷ saids) = omega (arith, lines_in-few saids)
 
 -- the images of contexts and those of body lines are all images
-images_in : (saids : List Said) → sum_by context_bytes (contexts_in saids) + sum_by line_bytes (lines_in saids) ≡ sum_by said_bytes saids
+images_in : (saids : List Said) → sum_by context_bytes (contexts_in saids) + sum_by line_bytes (lines_said saids) ≡ sum_by said_bytes saids
 images_in [] = refl
 images_in (Nothing ∷ saids) = omega (arith, images_in saids, sum_by-cons said_bytes Nothing saids)
 images_in (Header ∷ saids) = omega (arith, images_in saids, sum_by-cons said_bytes Header saids)
 images_in (Context context ∷ saids) =
     omega (arith, images_in saids, sum_by-cons said_bytes (Context context) saids, sum_by-cons context_bytes context (contexts_in saids))
 images_in (Body line ∷ saids) =
-    omega (arith, images_in saids, sum_by-cons said_bytes (Body line) saids, sum_by-cons line_bytes line (lines_in saids))
+    omega (arith, images_in saids, sum_by-cons said_bytes (Body line) saids, sum_by-cons line_bytes line (lines_said saids))
 images_in (End ∷ saids) = omega (arith, images_in saids, sum_by-cons said_bytes End saids)
 
 -- all lines were said, and `end` came
@@ -187,7 +187,7 @@ record AllAreSaid (size : ℕ) (saids : List Said) : Type 0 where
   few_bytes : size ≤ 8388608
   few_lines : length saids ≤ 262144
   small_images : sum_by said_bytes saids ≤ 67108864
-  lines : All IsLine (lines_in saids)
+  lines : All IsLine (lines_said saids)
   one_context : HasOneContext (contexts_in saids)
 
 one_where_ended : (contexts : List ContextSpec) (ended : Bool) → IsFew contexts ended → ended ≡ true → HasOneContext contexts

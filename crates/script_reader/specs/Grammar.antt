@@ -63,19 +63,19 @@ contexts_in (Context context ∷ saids) = context ∷ contexts_in saids
 contexts_in (_ ∷ saids) = contexts_in saids
 
 -- the body lines among these sayings, in their order
-abbrev pub lines_in : List Said → List Line
-lines_in [] = []
-lines_in (Body line ∷ saids) = line ∷ lines_in saids
-lines_in (_ ∷ saids) = lines_in saids
+abbrev pub lines_said : List Said → List Line
+lines_said [] = []
+lines_said (Body line ∷ saids) = line ∷ lines_said saids
+lines_said (_ ∷ saids) = lines_said saids
 
 -- the script that these sayings make
 abbrev pub script_said : List Said → Result Script ScriptError
-script_said saids = Ok (record { contexts = contexts_in saids; lines = lines_in saids })
+script_said saids = Ok (record { contexts = contexts_in saids; lines = lines_said saids })
 
 -- the script that the bytes spell, or the first faulty line with its fault
 unfoldable pub script_of : List ℕ → Result Script ScriptError
 script_of bytes = and_then (all_said 0 [] (lines_of bytes)) script_said
 
 -- a reader answers so, or refuses for want of memory
-abbrev pub Answers : Result Script ReadRefusal → Result Script ReadRefusal → Type 0
-Answers result answer = (result ≡ answer) ⊎ (result ≡ Err NoMemory)
+abbrev pub IsReading : Result Script ReadRefusal → Result Script ReadRefusal → Type 0
+IsReading result answer = (result ≡ answer) ⊎ (result ≡ Err NoMemory)

@@ -2,7 +2,7 @@
 use Rattle.std.specs.Prelude.{◌≡◌, ℕ, ◌+◌, ◌||◌, List, [], ◌∷◌, ◌++◌, Result, Ok, Err, if◌then◌else◌}
 use Rattle.script_reader.specs.ImageBytes.{said_bytes}
 use Rattle.script_reader.specs.Judged.{judged_within}
-use Rattle.script_reader.specs.Grammar.{before_of, contexts_in, lines_in, numbered, says_something, is_context, is_body, is_end}
+use Rattle.script_reader.specs.Grammar.{before_of, contexts_in, lines_said, numbered, says_something, is_context, is_body, is_end}
 use Rattle.script_reader.specs.declared.before.Before.{Before}
 use Rattle.script_reader.specs.declared.before.Said.{Said}
 use Rattle.script_reader.specs.declared.heard.Heard.{Heard}
@@ -14,7 +14,7 @@ use Rattle.script_reader.specs.declared.script.Script.{Script}
 -- what is kept is what these lines have said
 pub record IsHeard (heard : Heard) (saids : List Said) : Type 0 where
   pub same_contexts : heard.contexts ≡ contexts_in saids
-  pub same_lines : heard.lines ≡ lines_in saids
+  pub same_lines : heard.lines ≡ lines_said saids
   pub same_before : heard.before ≡ before_of saids
 
 -- what the tests ask of the lines before, when one more has said this

@@ -2,7 +2,7 @@
 use Rattle.std.specs.Prelude.{ℕ, ◌+◌, ◌*◌, ◌%◌, Bool, List, [], ◌∷◌, Option, Some, None, length, nat_lt, ◌==◌, ◌&&◌, if◌then◌else◌}
 use Rattle.std.specs.List.{list_all}
 use Rattle.std.specs.Char.{is_ascii_hexdigit}
-use Rattle.driver_trait.specs.Room.{Roomy}
+use Rattle.gl_memory.specs.Room.{RoomView}
 use Rattle.script_reader.specs.Number.{hex_digit}
 
 -- one or more pairs of hexadecimal digits of either case
@@ -20,5 +20,5 @@ unfoldable pub bytes_of : List ℕ → Option (List ℕ)
 bytes_of word = if are_pairs word then Some (paired word) else None
 
 -- bytes in a room for just so many
-abbrev pub in_their_room : List ℕ → Roomy ℕ
+abbrev pub in_their_room : List ℕ → RoomView ℕ
 in_their_room bytes = record { items = bytes; room = length bytes }

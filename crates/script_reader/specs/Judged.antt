@@ -115,6 +115,10 @@ judged_image before context (word ∷ words) =
       image ← ok_or (image_of name numbers) OutOfRange
       body_in before context image)
 
+-- the arguments that words spell, as many as kinds: their count is judged before them
+unfoldable pub judged_arguments : List ArgKind → List (List ℕ) → Result (List ℤ) ScriptFault
+judged_arguments kinds words = if not (length words == length kinds) then Err WrongCount else ok_or (arguments_of kinds words) BadNumber
+
 -- a call with these number and kinds, and its arguments
 unfoldable pub judged_call : Before → ℕ → ℕ → List ArgKind → List (List ℕ) → Result Said ScriptFault
 judged_call before context id kinds words =

@@ -8,7 +8,7 @@ pub mod Limits
 pub mod Name
 pub mod Number
 pub mod Told
-pub use Rattle.driver_trait.specs.Room
+pub use Rattle.gl_memory.specs.Room
 pub use Rattle.gl_words.specs.Call
 pub use Rattle.gl_words.specs.CallOf
 pub use Rattle.gl_words.specs.Kind

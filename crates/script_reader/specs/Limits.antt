@@ -33,13 +33,13 @@ pub record IsImage (width height at : ℕ) : Type 0 where
   pub few_rows : height ≤ 256
   pub near : at ≤ 4294967295
 
--- what a line does keeps to its limits
+-- what a line does keeps to its limits; own
 abbrev pub IsAct : Act → Type 0
 IsAct (Mem at bytes) = IsMem at bytes.items
 IsAct (Image name width height at) = IsImage width height at
 IsAct (Gl call) = Unit {0}
 
--- a line keeps to its limits
+-- a line keeps to its limits; own
 abbrev pub IsLine : Line → Type 0
 IsLine line = IsAct line.act
 

@@ -1,12 +1,13 @@
 //! One body line judged behind its context: a write of bytes, an image or a call. The tests stand in the order
 //! of the definitions.
 
-ghost use Rattle.std.specs.Prelude.{◌≡◌, ℕ, ◌+◌, ◌^◌, ◌<◌, ◌≤◌, List, [], ◌∷◌, ℤ, pos, int_le, ◌&&◌, length, IfSome, OnOk, Ok, if◌then◌else◌};
+ghost use Rattle.std.specs.Prelude.{◌≡◌, ℕ, ◌+◌, ◌^◌, ◌<◌, ◌≤◌, List, [], ◌∷◌, ℤ, pos, int_le, ◌&&◌, length, IfSome, OnOk, Ok, ◌==◌, if◌then◌else◌};
 ghost use Rattle.std.specs.Option.{option_map};
 ghost use Rattle.gl_words.specs.Shape.{shape_named, seen_shape};
 ghost use Rattle.script_reader.specs.Cutting.{words_of};
-ghost use Rattle.script_reader.specs.Judged.{address_of, value_of, arguments_of, body_in, image_of, judged_mem, judged_image, judged_call, judged_body};
+ghost use Rattle.script_reader.specs.Judged.{address_of, value_of, judged_arguments, body_in, image_of, judged_mem, judged_image, judged_call, judged_body};
 ghost use Rattle.script_reader.specs.Told.{act_of, HasBytes};
+ghost use Rattle.script_reader.specs.declared.error.ScriptFault.TheVariants.{BadNumber, WrongCount};
 
 use crate::before::{Before, Said};
 use crate::error::ScriptFault;
@@ -152,7 +153,7 @@ fn shape_from(name: &[u8]) -> Option<Shape>
     }
 }
 
-#[tactic(auto, unfolding(crate::specs::Judged::judged_call))]
+#[tactic(auto, using(crate::proofs::Fronts::judged))]
 fn judge_call(
     before: Before,
     context: u64,
@@ -163,31 +164,44 @@ fn judge_call(
     requires line { before.lines < 262144 }
     ensures { result ≡ judged_call before context shape.id shape.kinds.now (words_of rest.now) }
 {
-    if count_words(rest) != shape.kinds.len() {
-        return Err(ScriptFault::WrongCount);
-    }
-    let numbers = arguments_from(shape.kinds, rest).ok_or(ScriptFault::BadNumber)?;
+    let numbers = arguments_from(shape.kinds, rest)?;
     let call = call_from(shape.id, numbers.as_slice()).ok_or(ScriptFault::OutOfRange)?;
     body_in(before, context, Asked::Gl(call))
 }
 
-fn arguments_from(kinds: &[ArgKind], text: &[u8]) -> Option<Numbers>
+/// The arguments that words spell. The words are walked once: where one spells no number those behind it are counted,
+/// since their count is judged before them.
+fn arguments_from(kinds: &[ArgKind], text: &[u8]) -> Result<Numbers, ScriptFault>
     requires { length kinds.now ≤ 9 }
-    ensures { result ≡ arguments_of kinds.now (words_of text.now) }
+    ensures { result ≡ judged_arguments kinds.now (words_of text.now) }
 {
     let mut numbers = Numbers::new();
     let mut rest = text;
     for kind in kinds {
         let Some((word, after)) = next_word(rest) else {
-            return None;
+            return Err(ScriptFault::WrongCount);
         };
         let Some(number) = argument_from(word) else {
-            return None;
+            return Err(fault_behind(kinds.len() - 1 - numbers.as_slice().len(), after));
         };
         numbers.push(value_from(*kind, number));
         rest = after;
     }
-    Some(numbers)
+    if count_words(rest) != 0 {
+        return Err(ScriptFault::WrongCount);
+    }
+    Ok(numbers)
+}
+
+/// The fault of a call of whose arguments one spells no number, where so many words should follow it.
+fn fault_behind(count: usize, after: &[u8]) -> ScriptFault
+    ensures { result ≡ if length (words_of after.now) == count then BadNumber else WrongCount }
+{
+    if count_words(after) == count {
+        ScriptFault::BadNumber
+    } else {
+        ScriptFault::WrongCount
+    }
 }
 
 fn value_from(kind: ArgKind, number: i64) -> i64

@@ -3,7 +3,7 @@
 ghost use Rattle.std.specs.Prelude.{◌≡◌, ℕ, ◌+◌, ◌^◌, ◌<◌, ◌≤◌, List, [], ◌∷◌, ◌++◌, length, OnOk, OnErr, IfErr};
 ghost use Rattle.script_reader.specs.declared.before.Said.{Said};
 ghost use Rattle.script_reader.specs.declared.error.ReadRefusal.TheVariants.{NoMemory};
-ghost use Rattle.script_reader.specs.Grammar.{contexts_in, lines_in, says_something, is_context, is_body, is_end};
+ghost use Rattle.script_reader.specs.Grammar.{contexts_in, lines_said, says_something, is_context, is_body, is_end};
 ghost use Rattle.script_reader.specs.ImageBytes.{said_bytes};
 ghost use Rattle.script_reader.specs.Heard.{IsHeard, HearsLine, RefusesLine, after};
 
@@ -72,7 +72,7 @@ fn hear(heard: &mut Heard, alloc: Global, said: Said<'_>) -> Result<(), ReadRefu
     requires few { heard.old.before.contexts ≤ heard.old.before.lines }
     ensures contexts { OnOk result
         (heard.new.contexts ≡ heard.old.contexts ++ contexts_in (said.entry ∷ [])) }
-    ensures kept { OnOk result (heard.new.lines ≡ heard.old.lines ++ lines_in (said.entry ∷ [])) }
+    ensures kept { OnOk result (heard.new.lines ≡ heard.old.lines ++ lines_said (said.entry ∷ [])) }
     ensures before { OnOk result (heard.new.before ≡ after heard.old.before said.entry) }
     ensures few { OnOk result (heard.new.before.contexts ≤ heard.new.before.lines) }
     ensures err { IfErr result (λ e. e ≡ NoMemory) }
@@ -93,7 +93,7 @@ fn keep(
     said: Said<'_>,
 ) -> Result<(), AllocError>
     ensures contexts { OnOk result (contexts.new ≡ contexts.old ++ contexts_in (said.entry ∷ [])) }
-    ensures lines { OnOk result (lines.new ≡ lines.old ++ lines_in (said.entry ∷ [])) }
+    ensures lines { OnOk result (lines.new ≡ lines.old ++ lines_said (said.entry ∷ [])) }
 {
     match said {
         Said::Context(context) => contexts.push(context),

@@ -4,7 +4,7 @@ ghost use Rattle.std.specs.Prelude.{◌≡◌, IfOk, IsTrue};
 ghost use Rattle.script_reader.specs.Hex.{are_pairs, paired, in_their_room};
 
 use crate::number::{all_hexadecimal, digit_value};
-use driver_trait::Octets;
+use gl_memory::Octets;
 use std::alloc::{AllocError, Global};
 
 /// Whether a word is one or more pairs of hexadecimal digits.

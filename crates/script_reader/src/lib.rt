@@ -24,5 +24,6 @@ pub use contexts::Contexts;
 pub use error::{Limit, ReadRefusal, ScriptError, ScriptFault};
 pub use lines::Lines;
 pub use name::Name;
+pub use number::decimal_from;
 pub use reader::read;
 pub use script::{Act, ContextSpec, Line, Script};

@@ -10,9 +10,9 @@ ghost use Rattle.gl_words.specs.Names.{number_named};
 use gl_words::number_of_enum;
 use std::str::from_utf8;
 
-/// The number that decimal digits spell, at most ten of them.
+/// The number that 1 to 10 decimal digits spell; own. None exactly where a word isn't so many digits. It takes no memory.
 #[tactic(auto, unfolding(crate::specs::Number::decimal_of))]
-pub(crate) fn decimal_from(word: &[u8]) -> Option<u64>
+pub fn decimal_from(word: &[u8]) -> Option<u64>
     ensures gives { result ≡ decimal_of word.now }
     ensures small { IfSome result (λ number. number < 10 ^ 10) }
 {

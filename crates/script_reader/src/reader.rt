@@ -4,7 +4,7 @@ ghost use Rattle.std.specs.Prelude.{◌≡◌, ℕ, ◌+◌, ◌≤◌, List, le
 ghost use Rattle.script_reader.specs.declared.script.Script.{Script};
 ghost use Rattle.script_reader.specs.declared.error.ScriptError.{ScriptError};
 ghost use Rattle.script_reader.specs.declared.error.ReadRefusal.TheVariants.{Bad};
-ghost use Rattle.script_reader.specs.Grammar.{script_of, Answers};
+ghost use Rattle.script_reader.specs.Grammar.{script_of, IsReading};
 ghost use Rattle.script_reader.specs.Heard.{Reads};
 ghost use Rattle.script_reader.specs.Limits.{IsWithinLimits};
 
@@ -20,11 +20,11 @@ pub fn read(alloc: Global, bytes: &[u8]) -> Result<Script, ReadRefusal>
     ensures found { IfOk result (λ script. script_of bytes.now ≡ Ok script) }
     ensures limits { IfOk result (λ script. IsWithinLimits bytes.now script) }
     ensures only { (script : Script) → script_of bytes.now ≡ Ok script
-        → Answers result (Ok script) }
+        → IsReading result (Ok script) }
     ensures cause { (error : ScriptError) → result ≡ Err (Bad error)
         → script_of bytes.now ≡ Err error }
     ensures exact { (error : ScriptError) → script_of bytes.now ≡ Err error
-        → Answers result (Err (Bad error)) }
+        → IsReading result (Err (Bad error)) }
 {
     read_all(alloc, bytes)
 }

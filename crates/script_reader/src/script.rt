@@ -3,10 +3,10 @@
 use crate::contexts::Contexts;
 use crate::lines::Lines;
 use crate::name::Name;
-use driver_trait::Octets;
+use gl_memory::Octets;
 use gl_words::Call;
 
-/// A script: its contexts, and the lines that are carried out, in order.
+/// A script: its contexts, and the lines that are carried out, in order; own.
 #[derive(Drop)]
 pub struct Script {
     pub contexts: Contexts,
@@ -22,7 +22,7 @@ pub struct ContextSpec {
     pub memory: u32,
 }
 
-/// A line that is carried out: its number in the script, from 1, and its context, from 0.
+/// A line that is carried out: its number in the script, from 1, and its context, from 0; own.
 #[derive(Drop)]
 pub struct Line {
     pub number: u32,
@@ -30,7 +30,7 @@ pub struct Line {
     pub act: Act,
 }
 
-/// What a line does.
+/// What a line does; own. A place in client memory is in bytes, 0 to 4,294,967,295.
 #[derive(Drop)]
 pub enum Act {
     /// Writes bytes, of which there is one at least, into client memory from a place on. Their room is for just so many.
