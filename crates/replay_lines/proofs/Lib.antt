@@ -1,0 +1,5 @@
+pub mod Countings
+pub mod LinesLemmas
+pub mod Risings
+pub mod RunLemmas
+pub mod Taking

@@ -1,0 +1,12 @@
+pub mod Limits
+pub mod Lines
+pub mod Moments
+pub mod Results
+pub mod Running
+pub use Rattle.gl_words.specs.Call
+pub use Rattle.client_shadow.specs.Cutting
+pub use Rattle.driver_trait.specs.Driver
+pub use Rattle.driver_trait.specs.Reply
+pub use Rattle.batch_rail.specs.Rail
+pub use Rattle.gl_front.specs.Front
+pub use Rattle.gl_front.specs.Taking

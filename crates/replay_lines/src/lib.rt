@@ -1,0 +1,10 @@
+//! Runs the lines of a script through a front, over any driver and rail, and tells what they told.
+#![tactic(auto)]
+
+mod lines;
+mod results;
+#[cfg(test)]
+mod tests;
+
+pub use lines::run_lines;
+pub use results::{Done, Results, What, answer_of, image_of};

@@ -1,0 +1,212 @@
+//! What the lines of a script told. How it is printed and put is told elsewhere.
+
+ghost use Rattle.std.specs.Prelude.{◌≡◌, ◌≤◌, ◌<◌, [], ◌∷◌, ◌++◌, length, slice_index_or, IfOk, OnOk, OnErr};
+ghost use Rattle.driver_trait.specs.Reply.{replied};
+ghost use Rattle.replay_lines.specs.Results.{Answer, Picture, count_of_bytes, printed, shown_by, taken_bytes, told_by, told_of};
+
+use driver_trait::Reply;
+use gl_memory::{ClientMemory, Memory, Numbers, Octets};
+use gl_words::{Call, is_answering};
+use script_reader::Name;
+use std::alloc::{AllocError as NoMemory, Global};
+use std::marker::Model;
+
+/// What a line told; own.
+#[derive(Drop)]
+pub enum What {
+    /// A call that asks for something, and the numbers that are printed of its reply: of ReadPixels the count of its bytes.
+    Answer {
+        call: Call,
+        numbers: Numbers,
+    },
+    /// The image of this name that was taken out of client memory: its sides in pixels, and its bytes, row by row from the
+    /// bottom, four a pixel.
+    Image {
+        name: Name,
+        width: u32,
+        height: u32,
+        bytes: Octets,
+    },
+}
+
+/// A line that told something: its number in the script, from 1, its context, from 0, and what; own.
+#[derive(Drop)]
+pub struct Done {
+    pub number: u32,
+    pub context: u32,
+    pub what: What,
+}
+
+/// What lines told, in order; own. Contracts see the list, without the rooms of its lists.
+#[derive(Drop)]
+pub struct Results {
+    list: Vec<Done>,
+}
+
+impl Model for Results {
+    ghost use Rattle.std.specs.Prelude.{List, map};
+    ghost use Rattle.replay_lines.specs.Results.{DoneView, told_by};
+
+    ghost Value = { List DoneView };
+
+    ghost view = { λ r. map told_by r.list.items };
+}
+
+impl Results {
+    /// No results. It takes no memory; own.
+    pub fn new(alloc: Global) -> Results
+        ensures { result ≡ [] }
+    {
+        Results {
+            list: Vec::new(alloc),
+        }
+    }
+
+    /// Adds a result at the end. NoMemory leaves them as they were; own.
+    pub fn push(&mut self, done: Done) -> Result<(), NoMemory>
+        ensures ok { OnOk result (self.new ≡ self.old ++ told_by done ∷ []) }
+        ensures err { OnErr result (self.new ≡ self.old) }
+    {
+        self.list.push(done)?;
+        Ok(())
+    }
+
+    /// Adds what a call of this line tells by its reply, where it tells something. NoMemory leaves them as they were; own.
+    pub fn note(
+        &mut self,
+        alloc: Global,
+        number: u32,
+        context: u32,
+        call: &Call,
+        reply: Reply,
+    ) -> Result<(), NoMemory>
+        ensures ok { OnOk result
+            (self.new ≡ self.old ++ told_of number context call.now (replied reply)) }
+        ensures err { OnErr result (self.new ≡ self.old) }
+    {
+        if !is_answering(call) {
+            return Ok(());
+        }
+        let what = answer_of(alloc, call, reply)?;
+        self.push(Done {
+            number,
+            context,
+            what,
+        })
+    }
+
+    /// How many there are; own.
+    pub fn len(&self) -> usize
+        ensures { result ≡ length self.now }
+    {
+        self.list.len()
+    }
+
+    /// The result at a place, from 0; own.
+    pub fn at(&self, at: usize) -> &Done
+        requires place { at < length self.now }
+        ensures { told_by result.now ≡ slice_index_or self.now at (told_by result.now) }
+    {
+        &self.list[at]
+    }
+}
+
+/// What a call tells by its reply; own.
+pub fn answer_of(alloc: Global, call: &Call, reply: Reply) -> Result<What, NoMemory>
+    ensures { IfOk result
+        (λ what. shown_by what ≡ Answer call.now (printed call.now (replied reply))) }
+{
+    let numbers = numbers_of(alloc, call, reply)?;
+    Ok(What::Answer {
+        call: *call,
+        numbers,
+    })
+}
+
+/// The numbers that are printed of a call's reply.
+fn numbers_of(alloc: Global, call: &Call, reply: Reply) -> Result<Numbers, NoMemory>
+    ensures { IfOk result (λ numbers. numbers.items ≡ printed call.now (replied reply)) }
+{
+    if let Call::ReadPixels { .. } = call {
+        return one(alloc, count(&reply));
+    }
+    match reply {
+        Reply::Nothing => Ok(Numbers::none(alloc)),
+        Reply::Bytes(_bytes) => Ok(Numbers::none(alloc)),
+        Reply::One(number) => one(alloc, number),
+        Reply::Numbers(numbers) => Ok(numbers),
+    }
+}
+
+/// A number alone.
+fn one(alloc: Global, number: i64) -> Result<Numbers, NoMemory>
+    ensures { IfOk result (λ numbers. numbers.items ≡ number ∷ []) }
+{
+    let mut numbers = Numbers::new(alloc, 1)?;
+    numbers.push(number);
+    Ok(numbers)
+}
+
+/// How many bytes a reply has.
+fn count(reply: &Reply) -> i64
+    ensures { result ≡ count_of_bytes (replied reply.now) }
+{
+    match reply {
+        Reply::Bytes(bytes) => bytes.len() as i64,
+        Reply::Nothing | Reply::One(_) | Reply::Numbers(_) => 0,
+    }
+}
+
+/// The image of this name and these sides that is taken out of client memory from a place on; own.
+pub fn image_of(
+    alloc: Global,
+    memory: &ClientMemory,
+    name: &Name,
+    width: u32,
+    height: u32,
+    at: u32,
+) -> Result<What, NoMemory>
+    requires width { width ≤ 256 }
+    requires height { height ≤ 256 }
+    ensures { IfOk result (λ what. shown_by what
+        ≡ Picture name.now width height (taken_bytes memory.now width height at)) }
+{
+    let bytes = bytes_of(alloc, memory, width, height, at)?;
+    Ok(What::Image {
+        name: copy_of(name),
+        width,
+        height,
+        bytes,
+    })
+}
+
+/// The bytes of an image of these sides, out of client memory, row by row from the bottom, four bytes a pixel.
+#[tactic(auto, unfolding(gl_memory::specs::Piece::bytes_from))]
+fn bytes_of(
+    alloc: Global,
+    memory: &ClientMemory,
+    width: u32,
+    height: u32,
+    at: u32,
+) -> Result<Octets, NoMemory>
+    requires width { width ≤ 256 }
+    requires height { height ≤ 256 }
+    ensures { IfOk result (λ image. image.items ≡ taken_bytes memory.now width height at) }
+{
+    let count = u64::from(width * height * 4);
+    let mut image = Octets::new(alloc, count)?;
+    for place in 0..count {
+        image.push(memory.byte(u64::from(at) + place));
+    }
+    Ok(image)
+}
+
+/// The same name.
+fn copy_of(name: &Name) -> Name
+    ensures { result ≡ name.now }
+{
+    match Name::from_word(name.as_bytes()) {
+        Some(name) => name,
+        None => unreachable!(),
+    }
+}
