@@ -1,0 +1,4 @@
+pub mod NameLemmas
+pub mod PpmLemmas
+pub mod Rails
+pub mod WordPairs

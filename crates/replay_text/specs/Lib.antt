@@ -1,0 +1,9 @@
+pub mod Ppm
+pub mod Status
+pub mod Text
+pub mod Words
+pub use Rattle.gl_words.specs.Call
+pub use Rattle.gl_memory.specs.Room
+pub use Rattle.batch_rail.specs.Maker
+pub use Rattle.script_reader.specs.Name
+pub use Rattle.script_reader.specs.Number
