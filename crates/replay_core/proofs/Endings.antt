@@ -1,26 +1,69 @@
--- The images of a script are those of its lines, and its frame's.
-use Rattle.std.proofs.Common.{◌≡◌, ℕ, List, ◌∷◌, ◌++◌, [], ap, ◌∙◌}
+-- Runs from the start of a script's context on come to its end.
+use Rattle.std.proofs.Common.{◌≡◌, ℕ, List, [], refl, sym, ap, subst, ◌∙◌, replicate, Option}
+use Rattle.std.specs.Prelude.{Result, IfOk, OnErr}
+use Rattle.std.proofs.Common.{Ok, Err}
+use Rattle.batch_rail.specs.Rail.{Gains}
+use Rattle.client_shadow.specs.Cutting.{Issued, batches_from, tally_of}
+use Rattle.gl_front.specs.declared.counts.Counts.{Counts}
 use Rattle.script_reader.specs.declared.script.Line.{Line}
-use Rattle.soft_driver.specs.Frame.{FrameView}
-use Rattle.soft_driver.specs.Own.{Own}
-use Rattle.replay_core.specs.Results.{Told, telling}
-use Rattle.replay_core.specs.Lines.{lines_in}
-use Rattle.replay_core.specs.Images.{images_of, frame_of, pictures_of, frame_name, ppm_of}
-use Rattle.replay_core.specs.Direct.{end_of}
+use Rattle.soft_driver.specs.Own.{Own, first_own}
+use Rattle.soft_driver.specs.Soft.{own_tracked, OwnSteps}
+use Rattle.replay_lines.specs.Lines.{Ran, StepsThrough, lines_in}
+use Rattle.replay_lines.specs.Results.{DoneView}
+use Rattle.replay_core.specs.Calls.{calls_of}
+use Rattle.replay_core.specs.Direct.{Reached, end_of}
+use Rattle.replay_core.specs.Plain.{CarriesOut, PlainView}
+use Rattle.replay_core.specs.Rail.{at_start, RunsOver}
+use Rattle.replay_core.specs.Report.{counted}
 use Rattle.replay_core.specs.Script.{Scripted}
+use Rattle.replay_core.specs.World.{Batches}
+use Rattle.replay_core.proofs.DirectLemmas.{lines_of, end_is, calls_are}
 
-pub images_are : (script : Scripted) (lines : List Line) (told : List Told) (own : Own) (frame : FrameView) (width height : ℕ) (pixels : List (List ℕ)) (before after : List (List ℕ × List ℕ)) (image : List ℕ × List ℕ)
-    → lines ≡ script.lines → told ≡ (end_of script).told → own ≡ (end_of script).own → frame ≡ own.frame
-    → width ≡ frame.width → height ≡ frame.height → pixels ≡ frame.pixels
-    → before ≡ pictures_of (telling (lines_in 0 lines)) told → image ≡ (frame_name, ppm_of width height pixels) → after ≡ before ++ image ∷ []
-    → after ≡ images_of script
-unfolding images_of frame_of
-images_are script lines told own frame width height pixels before after image same_lines is_told is_own is_frame same_width same_height same_pixels pictured imaged pushed =
-    let framed : List ℕ → List (List ℕ × List ℕ) = λ bytes. (frame_name, bytes) ∷ [] in
-    let ends : ppm_of width height pixels ≡ frame_of (end_of script).own.frame =
-    ap (λ (n : ℕ). ppm_of n height pixels) same_width ∙ ap (λ (n : ℕ). ppm_of frame.width n pixels) same_height ∙ ap (λ (p : List (List ℕ)). ppm_of frame.width frame.height p) same_pixels
-    ∙ ap (λ (f : FrameView). frame_of f) is_frame ∙ ap (λ (o : Own). frame_of o.frame) is_own in
-    pushed
-    ∙ ap (λ (l : List (List ℕ × List ℕ)). l ++ image ∷ []) (pictured ∙ ap (λ (ls : List Line). pictures_of (telling (lines_in 0 ls)) told) same_lines ∙ ap (λ (t : List Told). pictures_of (telling (lines_in 0 script.lines)) t) is_told)
-    ∙ ap (λ (i : List ℕ × List ℕ). let last : List (List ℕ × List ℕ) = i ∷ [] in pictures_of (telling (lines_in 0 script.lines)) (end_of script).told ++ last) imaged
-    ∙ ap (λ (bytes : List ℕ). pictures_of (telling (lines_in 0 script.lines)) (end_of script).told ++ framed bytes) ends
+-- a context came to its end, and told this
+pub record IsEnd (context : ℕ) (script : Scripted) (own : Own) (told : List DoneView) : Type 0 where
+  pub is_own : own ≡ (end_of context script).own
+  pub is_told : told ≡ (end_of context script).told
+
+-- a run over a rail came to the end of a script's context, with its counts and its batches
+pub record RanToEnd (context : ℕ) (script : Scripted) (size : ℕ) (own : Own) (told : List DoneView) (counts : Counts) (launched closed : Option Batches) : Type 0 where
+  pub at_end : IsEnd context script own told
+  pub all_counted : counted counts ≡ tally_of size (calls_of size context script)
+  pub handed_over : Gains launched closed (batches_from size [] (calls_of size context script))
+
+module _ (context : ℕ) (script : Scripted) (st : Own) (memory : List ℕ) (lines : List Line) (is_first : st ≡ first_own context script.width script.height)
+    (is_blank : memory ≡ replicate script.memory 0) (all : lines ≡ script.lines) where
+  -- the lines that were run are the script's
+  of_script : (ran : List Ran) → lines_of ran ≡ lines_in context lines → lines_of ran ≡ lines_in context script.lines
+  of_script ran each = each ∙ ap (λ (l : List Line). lines_in context l) all
+
+  pub carried_to_end : (old new : PlainView Own) → old ≡ record { driver = st; here = at_start memory; told = [] } → CarriesOut own_tracked OwnSteps (lines_in context lines) old new → IsEnd context script new.driver new.told
+  carried_to_end old new is_new carried =
+      let start : PlainView Own = record { driver = st; here = at_start memory; told = [] } in
+      let here = subst (λ (p : PlainView Own). CarriesOut own_tracked OwnSteps (lines_in context lines) p new) is_new carried in
+      let ended = end_is context script here.ran st new.driver memory is_first is_blank (of_script here.ran here.each) here.leads in
+      record {
+        is_own = sym (ap (λ (r : Reached). r.own) ended);
+        is_told = here.told ∙ sym (ap (λ (r : Reached). r.told) ended);
+      }
+
+  pub ran_to_end : {R : Type 0} (stands : R → Own → Type 0) (tells : R → Option Batches) (size : ℕ) (old new : R) (told : List DoneView) (counts : Counts) (st2 : Own)
+      → RunsOver own_tracked OwnSteps stands tells size (lines_in context lines) memory old new told counts → ((s : Own) → stands old s → s ≡ st) → stands new st2
+      → RanToEnd context script size st2 told counts (tells old) (tells new)
+  ran_to_end {R} stands tells size old new told counts st2 run only ends =
+      let led = run.leads st2 ends in
+      let from_first = subst (λ (s : Own). StepsThrough own_tracked OwnSteps (at_start memory) run.ran s st2) (only led.0 led.1) led.2 in
+      let each = of_script run.ran run.each in
+      let ended = end_is context script run.ran st st2 memory is_first is_blank each from_first in
+      let calls = calls_are context script run.ran st st2 memory is_first is_blank each from_first size in
+      record {
+        at_end = record { is_own = sym (ap (λ (r : Reached). r.own) ended); is_told = run.all_told ∙ sym (ap (λ (r : Reached). r.told) ended) };
+        all_counted = run.all_counted ∙ ap (λ (c : List Issued). tally_of size c) (sym calls);
+        handed_over = subst (λ (c : List Issued). Gains (tells old) (tells new) (batches_from size [] c)) (sym calls) run.handed_over;
+      }
+
+-- what holds of a result that is known to be Ok, or an error
+pub if_ok : {T E : Type 0} (P : T → Type 0) (result : Result T E) (value : T) → result ≡ Ok value → IfOk result P → P value
+if_ok P result value is held = subst (λ r. IfOk r P) is held
+
+pub on_err : {T E : Type 0} (P : Type 0) (result : Result T E) (refusal : E) → result ≡ Err refusal → OnErr result P → P
+on_err P result refusal is held = subst (λ r. OnErr r P) is held

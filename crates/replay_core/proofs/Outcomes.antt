@@ -4,29 +4,27 @@ use Rattle.std.proofs.lemmas.List.{take_all}
 use Rattle.std.proofs.lemmas.Bool.{cases_lt}
 use Rattle.std.proofs.Math.Seq.{take-append_seam}
 use Rattle.gl_outside.specs.Moved.{Takes, Adds, AddsPart, IsAtEnd}
-use Rattle.replay_core.specs.declared.status.Status.{Status}
-use Rattle.replay_core.specs.declared.status.Status.TheVariants.{Ok as Done, ShelfFault, WriteFault, NoMemory}
-use Rattle.replay_core.specs.Deliver.{Delivers}
+use Rattle.replay_text.specs.declared.status.Status.{Status}
+use Rattle.replay_text.specs.declared.status.Status.TheVariants.{Ok as Done, ShelfFault, WriteFault, NoMemory}
+use Rattle.replay_text.specs.declared.asked.Command.{Command}
+use Rattle.replay_core.specs.Deliver.{Delivers, PutFirst, PutWhole, PutAll, Stored}
+use Rattle.replay_core.specs.World.{File, NothingFailed, World}
 use Rattle.script_reader.specs.declared.script.ContextSpec.{ContextSpec}
 use Rattle.script_reader.specs.Limits.{HasOneContext}
-use Rattle.replay_core.specs.Script.{IsOneContext, seen_script}
+use Rattle.replay_core.specs.Script.{IsOneContext, only_number}
 use Rattle.script_reader.specs.Grammar.{script_of}
 use Rattle.script_reader.specs.declared.error.ScriptError.{ScriptError}
 use Rattle.script_reader.specs.declared.script.Script.{Script}
 use Rattle.script_reader.proofs.Within.{what_is_spelled_is_within}
-use Rattle.replay_core.specs.declared.words.Command.{Command}
-use Rattle.replay_core.specs.Report.{report_for}
-use Rattle.batch_pack.specs.Spelling.{Spelled}
-use Rattle.replay_core.specs.Images.{images_of}
-use Rattle.replay_core.specs.Journals.{batches_for, Journals}
-use Rattle.replay_core.specs.Outcome.{most_bytes, ReadsScript, ReadsNoScript, Replays, PutsSome, WritesSome, StopsAnywhere}
+use Rattle.replay_core.specs.Journals.{HandsOver}
+use Rattle.replay_core.specs.Outcome.{most_bytes, images_due, report_due, batches_due, ReadsScript, ReadsNoScript, Runs, Replays, PutsSome, WritesSome, StopsAnywhere}
 
 -- a script has no more bytes than it may have
 pub script_fits : (bytes : List ℕ) (script : Script) → script_of bytes ≡ Ok script → length bytes ≤ most_bytes
 script_fits bytes script h = (what_is_spelled_is_within bytes script h).few_bytes
 
 -- the bytes that are a script were read to the end
-pub reads_script : (left_before left_after : Option (List ℕ)) (bytes : List ℕ) (script : Script) → Takes left_before left_after bytes → (length bytes < most_bytes + 1 → IsAtEnd left_after) → script_of bytes ≡ Ok script → ReadsScript left_before left_after script
+pub reads_script : (left_before left_after : Option (List ℕ)) (bytes : List ℕ) (script : Script) → Takes left_before left_after bytes → (length bytes < most_bytes + 1 → IsAtEnd left_after) → script_of bytes ≡ Ok script → ReadsScript script left_before left_after
 reads_script before after bytes script taken ends is_script = record {
   bytes = bytes;
   taken = taken;
@@ -35,7 +33,7 @@ reads_script before after bytes script taken ends is_script = record {
 }
 
 -- the bytes that are refused were read to the end, or up to one more than a script may have
-pub reads_no_script : (left_before left_after : Option (List ℕ)) (bytes : List ℕ) (error : ScriptError) → Takes left_before left_after bytes → length bytes ≤ most_bytes + 1 → (length bytes < most_bytes + 1 → IsAtEnd left_after) → (length bytes < most_bytes + 1) ⊎ (most_bytes + 1 ≤ length bytes) → script_of bytes ≡ Err error → ReadsNoScript left_before left_after error
+pub reads_no_script : (left_before left_after : Option (List ℕ)) (bytes : List ℕ) (error : ScriptError) → Takes left_before left_after bytes → length bytes ≤ most_bytes + 1 → (length bytes < most_bytes + 1 → IsAtEnd left_after) → (length bytes < most_bytes + 1) ⊎ (most_bytes + 1 ≤ length bytes) → script_of bytes ≡ Err error → ReadsNoScript error left_before left_after
 reads_no_script before after bytes error taken within ends (inl fewer) refused = record { bytes = bytes; taken = taken; no_more = within; enough = inl (ends fewer); is_refused = refused }
 reads_no_script before after bytes error taken within ends (inr enough) refused = record { bytes = bytes; taken = taken; no_more = within; enough = inr (omega arith); is_refused = refused }
 
@@ -68,41 +66,51 @@ accepted_is_read left bytes after script within taken whole accepted =
     let all : take (most_bytes + 1) left ≡ left = take_all (most_bytes + 1) left fits in
     ap (λ bs. script_of bs) (read_is_take (most_bytes + 1) left bytes after within taken whole ∙ all) ∙ accepted
 
--- what all that was put and written is, where a run ends well
-pub replays : (command : Command) (status : Status) (lb la hb ha : Option (List ℕ)) (sb sa : Option (List (List ℕ × List ℕ))) (jb ja : ℕ → Option (List (List Spelled))) (script : Script) (images : List (List ℕ × List ℕ)) (report : List ℕ) → status ≡ Done → ReadsScript lb la script → Journals (batches_for command (seen_script script)) jb ja → images ≡ images_of (seen_script script) → report ≡ report_for command (seen_script script) → Delivers status hb ha sb sa images report → Replays command lb la hb ha sb sa jb ja
-replays command status lb la hb ha sb sa jb ja script images report is_done read handed_over are_images is_report delivers =
-    let done : Delivers Done hb ha sb sa images report = subst (λ (s : Status). Delivers s hb ha sb sa images report) is_done delivers in
-    let W : List ℕ → Type 0 = λ r. Adds hb ha r in
-    let I : List (List ℕ × List ℕ) → Type 0 = λ i. Adds sb sa i in
-    record { script = script; read = read; written = subst W is_report done.0; put = subst I are_images done.1; handed_over = handed_over }
+-- a script that was read and run by an equal command
+pub runs_script : (command asked : Command) (script : Script) (before after : World) → command ≡ asked → ReadsScript script before.left after.left → HandsOver only_number (batches_due command script) before.journal after.journal → Runs asked script before after
+runs_script command asked script before after same read handed_over = record {
+  read = read;
+  handed_over = subst (λ (k : Command). HandsOver only_number (batches_due k script) before.journal after.journal) same handed_over;
+}
 
--- what stands after a put that failed
-pub puts_some : (command : Command) (status : Status) (lb la hb ha : Option (List ℕ)) (sb sa : Option (List (List ℕ × List ℕ))) (jb ja : ℕ → Option (List (List Spelled))) (script : Script) (images : List (List ℕ × List ℕ)) (report : List ℕ) (stored : ℕ) → status ≡ ShelfFault stored → ReadsScript lb la script → Journals (batches_for command (seen_script script)) jb ja → images ≡ images_of (seen_script script) → report ≡ report_for command (seen_script script) → Delivers status hb ha sb sa images report → PutsSome command lb la sb sa jb ja stored
-puts_some command status lb la hb ha sb sa jb ja script images report stored is_fault read handed_over are_images is_report delivers =
-    let stands : Delivers (ShelfFault stored) hb ha sb sa images report = subst (λ (s : Status). Delivers s hb ha sb sa images report) is_fault delivers in
-    let I : List (List ℕ × List ℕ) → Type 0 = λ i. Adds sb sa (take stored i) in
-    let F : List (List ℕ × List ℕ) → Type 0 = λ i. stored < length i in
-    record { script = script; read = read; fewer = subst F are_images stands.1.some_missing; put = subst I are_images stands.1.put; handed_over = handed_over }
+-- what the sink and the shelf tell of a world
+abbrev pub stored_in : World → Stored
+stored_in world = record { held = world.held; files = world.files }
 
--- what stands after a write that failed
-pub writes_some : (command : Command) (status : Status) (lb la hb ha : Option (List ℕ)) (sb sa : Option (List (List ℕ × List ℕ))) (jb ja : ℕ → Option (List (List Spelled))) (script : Script) (images : List (List ℕ × List ℕ)) (report : List ℕ) → status ≡ WriteFault → ReadsScript lb la script → Journals (batches_for command (seen_script script)) jb ja → images ≡ images_of (seen_script script) → report ≡ report_for command (seen_script script) → Delivers status hb ha sb sa images report → WritesSome command lb la hb ha sb sa jb ja
-writes_some command status lb la hb ha sb sa jb ja script images report is_fault read handed_over are_images is_report delivers =
-    let stands : Delivers WriteFault hb ha sb sa images report = subst (λ (s : Status). Delivers s hb ha sb sa images report) is_fault delivers in
-    let W : List ℕ → Type 0 = λ r. AddsPart hb ha r in
-    let I : List (List ℕ × List ℕ) → Type 0 = λ i. Adds sb sa i in
-    record { script = script; read = read; written = subst W is_report stands.written; put = subst I are_images stands.put; handed_over = handed_over }
+-- what stands of the images and the report of a script that was run
+module _ (asked : Command) (script : Script) (before after : World) (runs : Runs asked script before after) (status : Status) (images : List File) (report : List ℕ)
+    (are_images : images ≡ images_due script) (is_report : report ≡ report_due asked script) (delivers : Delivers status images report (stored_in before) (stored_in after)) where
+  -- the same of the images and the report that are due
+  delivers_due : Delivers status (images_due script) (report_due asked script) (stored_in before) (stored_in after)
+  delivers_due =
+      subst (λ (r : List ℕ). Delivers status (images_due script) r (stored_in before) (stored_in after)) is_report
+      (subst (λ (i : List File). Delivers status i report (stored_in before) (stored_in after)) are_images delivers)
 
--- what stands where memory was refused
-pub stops_anywhere : (command : Command) (status : Status) (lb la hb ha : Option (List ℕ)) (sb sa : Option (List (List ℕ × List ℕ))) (jb ja : ℕ → Option (List (List Spelled))) (script : Script) (images : List (List ℕ × List ℕ)) (report : List ℕ) → status ≡ NoMemory → ReadsScript lb la script → Journals (batches_for command (seen_script script)) jb ja → images ≡ images_of (seen_script script) → report ≡ report_for command (seen_script script) → Delivers status hb ha sb sa images report → StopsAnywhere command lb la hb ha sb sa jb ja
-stops_anywhere command status lb la hb ha sb sa jb ja script images report is_none read handed_over are_images is_report delivers =
-    let W : List ℕ → Type 0 = λ r. AddsPart hb ha r in
-    let I : List (List ℕ × List ℕ) → Type 0 = λ i. Adds sb sa i in
-    let B : List (List ℕ × List ℕ) → Type 0 = λ i. AddsPart sb sa i in
-    let stands : Delivers NoMemory hb ha sb sa images report = subst (λ (s : Status). Delivers s hb ha sb sa images report) is_none delivers in
-    elim stands [
-      | inl first ↦ inr (inl (first.0, record { script = script; read = read; put = subst B are_images first.1; handed_over = handed_over }))
-      | inr all ↦ inr (inr (record { script = script; read = read; written = subst W is_report all.written; put = subst I are_images all.put; handed_over = handed_over }))
-    ]
+  -- the same of a status that is known
+  delivers_as : (known : Status) → status ≡ known → Delivers known (images_due script) (report_due asked script) (stored_in before) (stored_in after)
+  delivers_as known same = subst (λ (s : Status). Delivers s (images_due script) (report_due asked script) (stored_in before) (stored_in after)) same delivers_due
+
+  pub replays : status ≡ Done → NothingFailed before after → Replays asked before after
+  replays is_done sound =
+      let stands = delivers_as Done is_done in
+      record { script = script; runs = runs; put = stands.put; written = stands.written; sound = sound }
+
+  pub puts_some : (stored : ℕ) → status ≡ ShelfFault stored → PutsSome asked stored before after
+  puts_some stored is_fault =
+      let stands = delivers_as (ShelfFault stored) is_fault in
+      record { script = script; runs = runs; fewer = stands.fewer; put = stands.put }
+
+  pub writes_some : status ≡ WriteFault → WritesSome asked before after
+  writes_some is_fault =
+      let stands = delivers_as WriteFault is_fault in
+      record { script = script; runs = runs; put = stands.put; written = stands.written }
+
+  pub stops_anywhere : status ≡ NoMemory → StopsAnywhere asked before after
+  stops_anywhere is_none =
+      elim (delivers_as NoMemory is_none) [
+        | inl part ↦ inr (inl (record { script = script; runs = runs; put = part.put; unwritten = part.unwritten }))
+        | inr all ↦ inr (inr (record { script = script; runs = runs; put = all.put; written = all.written }))
+      ]
 
 -- contexts that are one within the limits of a script
 pub one_context : (contexts : List ContextSpec) → HasOneContext contexts → IsOneContext contexts

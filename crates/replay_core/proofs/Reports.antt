@@ -1,23 +1,18 @@
--- The report, from its lines.
-use Rattle.std.proofs.Common.{◌≡◌, ℕ, List, [], ◌∷◌, ◌++◌, refl, append_assoc, codes}
-use Rattle.script_reader.specs.declared.script.Line.{Line}
-use Rattle.replay_core.specs.Report.{answer_text, answers_text}
-use Rattle.replay_core.proofs.Tellings.{Joins}
+-- The report of a script, from its parts.
+use Rattle.std.proofs.Common.{◌≡◌, ℕ, List, length, ap, ◌∙◌}
+use Rattle.replay_lines.specs.Results.{DoneView}
+use Rattle.replay_text.specs.declared.asked.Command.{Command}
+use Rattle.replay_core.specs.Direct.{end_of}
+use Rattle.replay_core.specs.Images.{images_of}
+use Rattle.replay_core.specs.Report.{counts_for, report_for, report_text}
+use Rattle.replay_core.specs.Script.{Scripted}
 
--- lines one behind the other are the report
-pub lines_of_report : (answers counts images : List ℕ) → (((codes "glreport 1\n" ++ answers) ++ counts) ++ images) ++ codes "end\n" ≡ codes "glreport 1\n" ++ (answers ++ (counts ++ (images ++ codes "end\n")))
-lines_of_report answers counts images = simp append_assoc
-
--- the same without counts
-pub lines_of_direct_report : (answers images : List ℕ) → ((codes "glreport 1\n" ++ answers) ++ images) ++ codes "end\n" ≡ codes "glreport 1\n" ++ (answers ++ (images ++ codes "end\n"))
-lines_of_direct_report answers images = simp append_assoc
-
--- the lines of answers are one after another
-nothing_answered : (lines : List Line) → answers_text lines [] ≡ []
-unfolding answers_text
-nothing_answered [] = refl
-nothing_answered (line ∷ lines) = refl
-
-pub answers_joined : Joins answer_text answers_text
-unfolding answers_text
-answers_joined = record { no_line = λ told. refl; nothing_told = nothing_answered; more = λ line lines told others. refl }
+pub report_is : (asked : Command) (context : ℕ) (script : Scripted) (told : List DoneView) (counts : List ℕ) (images : ℕ) (text : List ℕ)
+    → text ≡ report_text told counts images → told ≡ (end_of context script).told → counts ≡ counts_for asked context script → images ≡ length (images_of context script)
+    → text ≡ report_for asked context script
+unfolding report_for
+report_is asked context script told counts images text is is_told are_counts so_many =
+    is
+    ∙ ap (λ (t : List DoneView). report_text t counts images) is_told
+    ∙ ap (λ (n : List ℕ). report_text (end_of context script).told n images) are_counts
+    ∙ ap (λ (n : ℕ). report_text (end_of context script).told (counts_for asked context script) n) so_many

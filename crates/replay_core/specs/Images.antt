@@ -1,66 +1,37 @@
--- The images, as names and bytes; own. The form is PPM with the magic P6.
-use Rattle.std.specs.Prelude.{ℕ, zero, suc, ◌*◌, List, [], ◌∷◌, ◌++◌, take, drop, codes}
-use Rattle.std.specs.Fmt.{decimal}
-use Rattle.std.specs.List.{flat_map}
-use Rattle.replay_core.specs.Script.{Scripted}
+-- The images of a script, each made of what was told of it; own.
+use Rattle.std.specs.Prelude.{◌≡◌, ℕ, ◌*◌, List, [], ◌∷◌, ◌++◌, length}
+use Rattle.std.specs.List.{concat, flat_map}
+use Rattle.gl_state.specs.Private.{AreSides}
 use Rattle.soft_driver.specs.Frame.{FrameView}
-use Rattle.script_reader.specs.declared.script.Act.{Act}
-use Rattle.script_reader.specs.declared.script.Act.TheVariants.{Image}
-use Rattle.script_reader.specs.declared.script.Line.{Line}
+use Rattle.replay_lines.specs.Results.{Answer, DoneView, Picture, Shown}
+use Rattle.replay_text.specs.Ppm.{frame_name, image_name, ppm_of}
 use Rattle.replay_core.specs.Direct.{end_of}
-use Rattle.replay_core.specs.Lines.{lines_in}
-use Rattle.replay_core.specs.Results.{Shown, Picture, Told, telling}
+use Rattle.replay_core.specs.Script.{Scripted}
+use Rattle.replay_core.specs.World.{File}
 
--- the lowest so many rows of this width, the highest first; own
-unfoldable pub rows_from_top : ℕ → ℕ → List (List ℕ) → List (List ℕ)
-rows_from_top width zero pixels = []
-rows_from_top width (suc rows) pixels = take width (drop (rows * width) pixels) ++ rows_from_top width rows pixels
+-- the file of what a line told, if it took an image; own
+abbrev pub file_of : Shown → List File
+file_of (Answer call numbers) = []
+file_of (Picture name width height bytes) = (image_name name, ppm_of width height bytes) ∷ []
 
--- red, green and blue of pixels, one after another; own
-abbrev pub colours_of : List (List ℕ) → List ℕ
-colours_of pixels = flat_map (λ pixel. take 3 pixel) pixels
+-- an image has sides of 1 to 256 pixels, and four bytes a pixel; own
+pub record IsPicture (width height : ℕ) (bytes : List ℕ) : Type 0 where
+  pub sides : AreSides width height
+  pub whole : length bytes ≡ width * height * 4
 
--- the head of an image of these sides; own
-unfoldable pub ppm_head : ℕ → ℕ → List ℕ
-ppm_head width height = codes "P6\n" ++ (decimal width ++ (codes " " ++ (decimal height ++ codes "\n255\n")))
+-- what was told is no image, or a whole one; own
+abbrev pub IsWhole : Shown → Type 0
+IsWhole (Answer call numbers) = Unit {0}
+IsWhole (Picture name width height bytes) = IsPicture width height bytes
 
--- the image of pixels that stand row by row from the bottom: red, green and blue of each, from the top; own
-unfoldable pub ppm_of : ℕ → ℕ → List (List ℕ) → List ℕ
-ppm_of width height pixels = ppm_head width height ++ colours_of (rows_from_top width height pixels)
+-- the files of the images that lines took, in order; own
+unfoldable pub files_of : List DoneView → List File
+files_of told = flat_map (λ done. file_of done.shown) told
 
--- bytes as pixels, four bytes each; own
-abbrev pub in_fours : List ℕ → List (List ℕ)
-in_fours (red ∷ green ∷ blue ∷ alpha ∷ bytes) = (red ∷ green ∷ blue ∷ alpha ∷ []) ∷ in_fours bytes
-in_fours bytes = []
+-- the file of a context's frame; own
+unfoldable pub frame_file : ℕ → FrameView → File
+frame_file context frame = (frame_name context, ppm_of frame.width frame.height (concat frame.pixels))
 
--- the name of the frame of context 0; own
-abbrev pub frame_name : List ℕ
-frame_name = codes "frame-0.ppm"
-
--- the name of an image that a line names so; own
-unfoldable pub image_name : List ℕ → List ℕ
-image_name name = codes "image-" ++ (name ++ codes ".ppm")
-
--- the image of a frame; own
-unfoldable pub frame_of : FrameView → List ℕ
-frame_of frame = ppm_of frame.width frame.height frame.pixels
-
--- the image of what a line told, if it took one; own
-abbrev pub picture_of : Act → Shown → List (List ℕ × List ℕ)
-picture_of (Image name width height at) (Picture bytes) = (image_name name, ppm_of width height (in_fours bytes)) ∷ []
-picture_of act shown = []
-
--- the images of lines that tell something, each of what it told; own
-unfoldable pub pictures_of : List Line → List Told → List (List ℕ × List ℕ)
-pictures_of [] told = []
-pictures_of (line ∷ lines) [] = []
-pictures_of (line ∷ lines) (told ∷ others) = picture_of line.act told.shown ++ pictures_of lines others
-
--- the images of these lines of a script, where this is what is told by them; own
-abbrev pub pictures_from : List Line → List Told → List (List ℕ × List ℕ)
-pictures_from lines told = pictures_of (telling (lines_in 0 lines)) told
-
--- the images of a script: those that its lines take, in order, and then its frame; own
-unfoldable pub images_of : Scripted → List (List ℕ × List ℕ)
-images_of script =
-    pictures_of (telling (lines_in 0 script.lines)) (end_of script).told ++ (frame_name, frame_of (end_of script).own.frame) ∷ []
+-- the images of a script's context: those that its lines took, in order, and then its frame; own
+unfoldable pub images_of : ℕ → Scripted → List File
+images_of context script = files_of (end_of context script).told ++ frame_file context (end_of context script).own.frame ∷ []

@@ -1,20 +1,18 @@
+pub mod Calls
 pub mod Deliver
 pub mod Direct
 pub mod Images
 pub mod Journals
-pub mod Lines
 pub mod Outcome
+pub mod Plain
+pub mod Rail
 pub mod Report
-pub mod Results
-pub mod Running
 pub mod Script
-pub mod Status
-pub mod Words
+pub mod World
 pub use Rattle.gl_words.specs.Call
-pub use Rattle.gl_words.specs.CallOf
-pub use Rattle.batch_pack.specs.Cutting
+pub use Rattle.client_shadow.specs.Cutting
 pub use Rattle.driver_trait.specs.Driver
-pub use Rattle.batch_rail.specs.Rail
+pub use Rattle.batch_rail.specs.Rail as Rails
 pub use Rattle.batch_rail.specs.Maker
 pub use Rattle.script_reader.specs.Grammar
 pub use Rattle.script_reader.specs.Cutting as CuttingText
@@ -22,3 +20,10 @@ pub use Rattle.script_reader.specs.Judged
 pub use Rattle.script_reader.specs.Number
 pub use Rattle.gl_outside.specs.Faults
 pub use Rattle.gl_outside.specs.Moved
+pub use Rattle.replay_lines.specs.Lines
+pub use Rattle.replay_lines.specs.Moments
+pub use Rattle.replay_lines.specs.Results
+pub use Rattle.replay_text.specs.Ppm
+pub use Rattle.replay_text.specs.Status
+pub use Rattle.replay_text.specs.Text
+pub use Rattle.replay_text.specs.Words

@@ -1,4 +1,4 @@
--- A script as data for the direct machine: one context, and its calls, each with the number of its line; own.
+-- A script as data for the direct machine: one context, and its lines; own.
 use Rattle.std.specs.Prelude.{◌≡◌, ℕ, ◌≤◌, List, [], ◌∷◌}
 use Rattle.gl_state.specs.Private.{AreSides}
 use Rattle.script_reader.specs.declared.script.ContextSpec.{ContextSpec}
@@ -9,6 +9,10 @@ use Rattle.script_reader.specs.declared.script.Script.{Script}
 abbrev pub most_lines : ℕ
 most_lines = 262144
 
+-- the number of a script's one context; own
+abbrev pub only_number : ℕ
+only_number = 0
+
 -- a script: the sides of its context in pixels, the size of its client memory in bytes, and its lines in order; own
 pub record Scripted : Type 0 where
   pub width : ℕ
@@ -16,7 +20,7 @@ pub record Scripted : Type 0 where
   pub memory : ℕ
   pub lines : List Line
 
--- the first of the contexts; a script has one
+-- the first of the contexts; a script has one; own
 abbrev pub first_context : List ContextSpec → ContextSpec
 first_context [] = record { width = 1; height = 1; memory = 0 }
 first_context (context ∷ contexts) = context

@@ -1,14 +1,13 @@
 //! Putting the images and writing the report.
 
 ghost use Rattle.std.specs.Prelude.{◌≡◌, ◌≤◌, ℕ};
-ghost use Rattle.gl_outside.specs.Moved.{Adds, AddsPart};
 ghost use Rattle.gl_outside.specs.Faults.{Rose};
-ghost use Rattle.replay_core.specs.declared.status.Status.{Status};
 ghost use Rattle.replay_core.specs.Deliver.{Delivers, Puts, Writes};
+ghost use Rattle.replay_text.specs.declared.status.Status.{Status};
 
 use crate::image::ImageFile;
-use crate::status::Status;
 use gl_outside::{OutError, Shelf, Sink, write_all};
+use replay_text::Status;
 
 /// Puts the images in order, and then writes the report.
 pub fn deliver<K: Sink, G: Shelf>(
@@ -17,8 +16,11 @@ pub fn deliver<K: Sink, G: Shelf>(
     images: &[ImageFile],
     report: &[u8],
 ) -> Status
-    ensures delivers { Delivers result (K.held sink.old) (K.held sink.new) (G.list shelf.old)
-        (G.list shelf.new) images.now report.now }
+    ensures delivers { Delivers result images.now report.now
+        (record { held = K.held sink.old; files = G.list shelf.old })
+        (record { held = K.held sink.new; files = G.list shelf.new }) }
+    ensures sound { result ≡ Status.Ok
+        → (K.faults sink.new ≡ K.faults sink.old) × (G.faults shelf.new ≡ G.faults shelf.old) }
     ensures shelf_fault { (stored : ℕ) → result ≡ Status.ShelfFault stored
         → Rose (G.faults shelf.old) (G.faults shelf.new) × (sink.new ≡ sink.old) }
     ensures write_fault { result ≡ Status.WriteFault
@@ -32,7 +34,8 @@ pub fn deliver<K: Sink, G: Shelf>(
 
 /// Puts the images in order, up to the first that isn't put.
 fn put_images<G: Shelf>(shelf: &mut G, images: &[ImageFile]) -> Status
-    ensures puts { Puts result (G.list shelf.old) (G.list shelf.new) images.now }
+    ensures puts { Puts result images.now (G.list shelf.old) (G.list shelf.new) }
+    ensures sound { result ≡ Status.Ok → G.faults shelf.new ≡ G.faults shelf.old }
     ensures shelf_fault { (stored : ℕ) → result ≡ Status.ShelfFault stored
         → Rose (G.faults shelf.old) (G.faults shelf.new) }
 {
@@ -49,7 +52,8 @@ fn put_images<G: Shelf>(shelf: &mut G, images: &[ImageFile]) -> Status
 
 /// Writes the report.
 fn write_report<K: Sink>(sink: &mut K, report: &[u8]) -> Status
-    ensures writes { Writes result (K.held sink.old) (K.held sink.new) report.now }
+    ensures writes { Writes result report.now (K.held sink.old) (K.held sink.new) }
+    ensures sound { result ≡ Status.Ok → K.faults sink.new ≡ K.faults sink.old }
     ensures write_fault { result ≡ Status.WriteFault
         → Rose (K.faults sink.old) (K.faults sink.new) }
 {

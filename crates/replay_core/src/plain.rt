@@ -1,21 +1,25 @@
-//! The direct machine, by a plain program. No batch is filled here, and no front stands here.
+//! The direct machine, by a plain program over any driver. No batch is filled here, and no front stands here.
 
-ghost use Rattle.std.specs.Prelude.{◌≡◌, ◌≤◌, List, IfOk, OnOk};
+ghost use Rattle.std.specs.Prelude.{◌≡◌, ◌≤◌, ◌<◌, [], ◌∷◌, IfOk, OnOk};
 ghost use Rattle.std.specs.List.{All};
-ghost use Rattle.script_reader.specs.Limits.{IsLine};
-ghost use Rattle.soft_driver.specs.Own.{Own};
-ghost use Rattle.replay_core.specs.Lines.{Moment, lines_in};
 ghost use Rattle.gl_state.specs.Private.{AreSides};
+ghost use Rattle.script_reader.specs.Limits.{IsLine};
+ghost use Rattle.replay_lines.specs.Lines.{lines_in};
+ghost use Rattle.replay_core.specs.Direct.{end_of};
+ghost use Rattle.replay_core.specs.Plain.{CarriesOut};
+ghost use Rattle.replay_core.specs.Rail.{at_start};
 ghost use Rattle.replay_core.specs.Script.{IsOneContext, first_context, seen_script};
-ghost use Rattle.replay_core.specs.Direct.{IsAfter, after_act, after_lines, end_of};
 
-use crate::lines::{note, take_image};
-use crate::results::{Done, Results, What};
-use driver_trait::write_reply;
+use driver_trait::{Driver, write_reply};
 use gl_memory::ClientMemory;
+use gl_tracked::Tracked;
+use gl_words::{Call, call_id};
+use replay_lines::{Done, Results, image_of};
 use script_reader::{Act, ContextSpec, Line, Script};
 use soft_driver::Soft;
 use std::alloc::{AllocError as NoMemory, Global};
+use std::marker::Model;
+use std::thread::Threads;
 
 /// What the direct machine leaves: what was told, in order, and the context at the end; own.
 #[derive(Drop)]
@@ -24,89 +28,147 @@ pub struct DirectRun {
     pub soft: Soft,
 }
 
-/// Carries each line of a script out as it is read; own.
-#[tactic(auto, unfolding(crate::specs::Direct::end_of))]
-pub fn direct(alloc: Global, script: &Script) -> Result<DirectRun, NoMemory>
+/// Carries each line of a script's context, of this number, out as it is read; own.
+pub fn direct<T: Threads + Sync>(
+    rt: &T,
+    alloc: Global,
+    context: u32,
+    script: &Script,
+) -> Result<DirectRun, NoMemory>
+    requires context { context < 4 }
     requires contexts { IsOneContext script.now.contexts }
     requires lines { All IsLine script.now.lines }
-    ensures told { IfOk result (λ done. done.results ≡ (end_of (seen_script script.now)).told) }
-    ensures soft { IfOk result (λ done. done.soft ≡ (end_of (seen_script script.now)).own) }
+    ensures told { IfOk result
+        (λ done. done.results ≡ (end_of context (seen_script script.now)).told) }
+    ensures soft { IfOk result
+        (λ done. done.soft ≡ (end_of context (seen_script script.now)).own) }
 {
-    let context = only_context(script);
-    let mut memory = ClientMemory::new(alloc, context.memory)?;
-    let mut soft = Soft::new(alloc, 0, context.width, context.height)?;
-    let mut results = Results::new(alloc);
-    carry_out_lines(
-        alloc,
-        &mut soft,
-        &mut memory,
-        script.lines.as_slice(),
-        &mut results,
-    )?;
+    let sides = only_context(script);
+    let memory = ClientMemory::new(alloc, sides.memory)?;
+    let soft = Soft::new(alloc, context, sides.width, sides.height)?;
+    let mut plain = Plain::new(alloc, soft, memory);
+    plain.carry_out(rt, alloc, context, script.lines.as_slice())?;
+    let (soft, results) = plain.into_parts();
     Ok(DirectRun { results, soft })
 }
 
-/// Carries the lines of context 0 out, and adds what they tell; own.
-fn carry_out_lines(
-    alloc: Global,
-    soft: &mut Soft,
-    memory: &mut ClientMemory,
-    lines: &[Line],
-    results: &mut Results,
-) -> Result<(), NoMemory>
-    requires lines { All IsLine lines.now }
-    ensures { OnOk result ((moments : List Moment) →
-        IsAfter (after_lines
-        (record { own = soft.old; memory = memory.old; told = results.old; moments = moments })
-        (lines_in 0 lines.now))
-        soft.new memory.new results.new) }
-{
-    for line in lines {
-        if line.context == 0 {
-            carry_out_line(alloc, soft, memory, line, results)?;
-        }
-    }
-    Ok(())
+/// A driver beside the tracked part of its state, which it doesn't tell, and its client memory; and what was told.
+#[derive(Drop)]
+pub(crate) struct Plain<D: Driver> {
+    driver: D,
+    tracked: Tracked,
+    memory: ClientMemory,
+    results: Results,
 }
 
-/// Carries a line out, and adds what it tells.
-fn carry_out_line(
-    alloc: Global,
-    soft: &mut Soft,
-    memory: &mut ClientMemory,
-    line: &Line,
-    results: &mut Results,
-) -> Result<(), NoMemory>
-    requires line { IsLine line.now }
-    ensures { OnOk result ((moments : List Moment) →
-        IsAfter (after_act
-        (record { own = soft.old; memory = memory.old; told = results.old; moments = moments })
-        line.now.number line.now.act)
-        soft.new memory.new results.new) }
-{
-    match &line.act {
-        Act::Mem { at, bytes } => {
-            memory.write(u64::from(*at), bytes.as_slice());
-            Ok(())
+impl<D: Driver> Model for Plain<D> {
+    ghost use Rattle.replay_core.specs.Plain.{PlainView};
+
+    ghost Value = { PlainView D };
+
+    ghost view = { λ p. record { driver = p.driver; here = record { tracked = p.tracked; memory = p.memory }; told = p.results } };
+}
+
+impl<D: Driver> Plain<D> {
+    /// A driver at its start, over this client memory.
+    pub(crate) fn new(alloc: Global, driver: D, memory: ClientMemory) -> Plain<D>
+        ensures { result ≡ record { driver = driver; here = at_start memory; told = [] } }
+    {
+        Plain {
+            driver,
+            tracked: Tracked::first(),
+            memory,
+            results: Results::new(alloc),
         }
-        Act::Image {
-            width,
-            height,
-            at,
-            ..
-        } => {
-            let image = take_image(alloc, memory, *width, *height, *at)?;
-            results.push(Done {
-                number: line.number,
-                what: What::Image(image),
-            })
+    }
+
+    /// Carries the lines of a context out, one after another.
+    pub(crate) fn carry_out<T: Threads + Sync>(
+        &mut self,
+        rt: &T,
+        alloc: Global,
+        context: u32,
+        lines: &[Line],
+    ) -> Result<(), NoMemory>
+        requires lines { All IsLine lines.now }
+        requires tracked { D.tracked self.old.driver ≡ self.old.here.tracked }
+        ensures { OnOk result
+            (CarriesOut D.tracked D.steps (lines_in context lines.now) self.old self.new) }
+    {
+        for line in lines {
+            if line.context == context {
+                self.carry_out_line(rt, alloc, line)?;
+            }
         }
-        Act::Gl(call) => {
-            let tracked = *soft.tracked();
-            let reply = soft.carry_out(call, memory)?;
-            write_reply(memory, &tracked, call, &reply);
-            note(alloc, results, line.number, call, reply)
+        Ok(())
+    }
+
+    /// The driver, and what was told.
+    pub(crate) fn into_parts(self) -> (D, Results)
+        ensures driver { result.0 ≡ self.driver }
+        ensures told { result.1 ≡ self.told }
+    {
+        (self.driver, self.results)
+    }
+
+    /// Carries a line out.
+    fn carry_out_line<T: Threads + Sync>(
+        &mut self,
+        rt: &T,
+        alloc: Global,
+        line: &Line,
+    ) -> Result<(), NoMemory>
+        requires line { IsLine line.now }
+        requires tracked { D.tracked self.old.driver ≡ self.old.here.tracked }
+        ensures ok { OnOk result
+            (CarriesOut D.tracked D.steps (line.now ∷ []) self.old self.new) }
+        ensures tracked { OnOk result (D.tracked self.new.driver ≡ self.new.here.tracked) }
+    {
+        match &line.act {
+            Act::Mem { at, bytes } => {
+                self.memory.write(u64::from(*at), bytes.as_slice());
+                Ok(())
+            }
+            Act::Image {
+                name,
+                width,
+                height,
+                at,
+            } => {
+                let what = image_of(alloc, &self.memory, name, *width, *height, *at)?;
+                self.results.push(Done {
+                    number: line.number,
+                    context: line.context,
+                    what,
+                })
+            }
+            Act::Gl(call) => self.carry_out_call(rt, alloc, line, call),
         }
+    }
+
+    /// Carries a line's call out. The driver is asked once.
+    fn carry_out_call<T: Threads + Sync>(
+        &mut self,
+        rt: &T,
+        alloc: Global,
+        line: &Line,
+        call: &Call,
+    ) -> Result<(), NoMemory>
+        requires call { line.now.act ≡ Act.Gl call.now }
+        requires tracked { D.tracked self.old.driver ≡ self.old.here.tracked }
+        ensures ok { OnOk result
+            (CarriesOut D.tracked D.steps (line.now ∷ []) self.old self.new) }
+        ensures tracked { OnOk result (D.tracked self.new.driver ≡ self.new.here.tracked) }
+    {
+        call_id(call);
+        self.memory.bytes();
+        let reply = self.driver.call(rt, call, &self.memory)?;
+        let before = self.tracked;
+        let fault = before.fault(call);
+        self.tracked.note(call, &self.memory, fault);
+        write_reply(&mut self.memory, &before, call, &reply);
+        self.results
+            .note(alloc, line.number, line.context, call, reply)
     }
 }
 

@@ -1,6 +1,7 @@
-//! What no clause says: that the calls succeed where there is memory enough, and the bytes that other programs give.
+//! What no clause says: that calls succeed, the bytes that another program gives, and how often a driver is asked.
 
+mod asked;
+mod faults;
 mod parts;
 mod runs;
-mod shown;
-mod words;
+mod told;

@@ -1,23 +1,23 @@
 //! The top call: from the bytes of a script to the bytes of images and a report. All that the program does is in it.
 
-ghost use Rattle.std.specs.Prelude.{◌≡◌, ◌⊎◌, ◌+◌, ◌↔◌, ℕ, List, Some, None, Ok, Err, take};
+ghost use Rattle.std.specs.Prelude.{◌≡◌, ◌⊎◌, ◌+◌, ◌↔◌, ℕ, List, Some, Ok, Err, take};
 ghost use Rattle.gl_outside.specs.Faults.{Rose};
 ghost use Rattle.gl_outside.specs.Moved.{TakesAtMost};
 ghost use Rattle.script_reader.specs.Grammar.{script_of};
 ghost use Rattle.script_reader.specs.declared.error.ScriptError.{ScriptError};
 ghost use Rattle.script_reader.specs.declared.script.Script.{Script};
-ghost use Rattle.replay_core.specs.declared.status.Status.{Status};
-ghost use Rattle.replay_core.specs.declared.words.Command.{Command};
-ghost use Rattle.replay_core.specs.declared.words.Command.TheVariants.{Direct};
-ghost use Rattle.replay_core.specs.Words.{command_of, rail_in, texts_of};
-ghost use Rattle.replay_core.specs.Outcome.{most_bytes, Replays, ReadsNoScript, PutsSome, WritesSome, StopsAnywhere};
+ghost use Rattle.replay_core.specs.Outcome.{Ask, AskNothing, most_bytes, Replays, ReadsNoScript, PutsSome, WritesSome, StopsAnywhere};
+ghost use Rattle.replay_text.specs.Words.{rail_in};
+ghost use Rattle.replay_core.specs.World.{world_of};
+ghost use Rattle.replay_text.specs.declared.status.Status.{Status};
+ghost use Rattle.replay_text.specs.declared.asked.Command.{Command};
+ghost use Rattle.replay_text.specs.declared.asked.Command.TheVariants.{Direct};
 
 use crate::deliver::deliver;
 use crate::run::run_command;
-use crate::status::Status;
-use crate::words::command_in;
 use batch_rail::RailMaker;
 use gl_outside::{ReadError, Shelf, Sink, Source, read_up_to};
+use replay_text::{Status, command};
 use script_reader::{ReadRefusal, read};
 use soft_driver::Soft;
 use std::alloc::Global;
@@ -26,7 +26,11 @@ use std::thread::Threads;
 /// One byte more than a script may have.
 const ENOUGH: usize = 8_388_609;
 
-/// Replays the script in the source: puts its images on the shelf and writes its report to the sink.
+/// The number of a script's one context.
+const ONLY_NUMBER: u32 = 0;
+
+/// Replays the script in the source: puts its images on the shelf and writes its report to the sink. What each
+/// answer says is its clause; `see` is what the objects tell before the call, `seen` what they tell after it.
 pub fn replay_alone<T: Threads + Sync, S: Source, K: Sink, G: Shelf, R: RailMaker<Soft>>(
     rt: &T,
     alloc: Global,
@@ -36,15 +40,13 @@ pub fn replay_alone<T: Threads + Sync, S: Source, K: Sink, G: Shelf, R: RailMake
     shelf: &mut G,
     rails: &mut R,
 ) -> Status
-    requires kind { (asked : Command) → command_of (texts_of words.now) ≡ Some asked
+    requires kind { (asked : Command) → Ask words.now asked
         → R.kind_of rails.old ≡ rail_in asked }
-    // each answer, with what it says and its cause
-    ensures ok { (asked : Command) → command_of (texts_of words.now) ≡ Some asked
-        → result ≡ Status.Ok
-        → Replays asked (S.left source.old) (S.left source.new)
-        (K.held sink.old) (K.held sink.new) (G.list shelf.old) (G.list shelf.new)
-        (R.journal rails.old) (R.journal rails.new) }
-    ensures bad_words { (result ≡ Status.BadWords) ↔ (command_of (texts_of words.now) ≡ None) }
+    ensures ok { let told = world_of S.left K.held G.list R.journal S.faults K.faults G.faults in
+        (asked : Command) → Ask words.now asked → result ≡ Status.Ok
+        → Replays asked (told source.old sink.old shelf.old rails.old)
+        (told source.new sink.new shelf.new rails.new) }
+    ensures bad_words { (result ≡ Status.BadWords) ↔ AskNothing words.now }
     ensures bad_words_leave { result ≡ Status.BadWords → (source.new ≡ source.old)
         × (sink.new ≡ sink.old) × (shelf.new ≡ shelf.old) × (rails.new ≡ rails.old) }
     ensures read_fault { result ≡ Status.ReadFault
@@ -52,43 +54,40 @@ pub fn replay_alone<T: Threads + Sync, S: Source, K: Sink, G: Shelf, R: RailMake
         × TakesAtMost (most_bytes + 1) (S.left source.old) (S.left source.new)
         × (sink.new ≡ sink.old) × (shelf.new ≡ shelf.old) × (rails.new ≡ rails.old) }
     ensures bad_script { (error : ScriptError) → result ≡ Status.BadScript error
-        → ReadsNoScript (S.left source.old) (S.left source.new) error
+        → ReadsNoScript error (S.left source.old) (S.left source.new)
         × (sink.new ≡ sink.old) × (shelf.new ≡ shelf.old) × (rails.new ≡ rails.old) }
-    ensures shelf_fault { (asked : Command) → command_of (texts_of words.now) ≡ Some asked
+    ensures shelf_fault { let told = world_of S.left K.held G.list R.journal S.faults K.faults G.faults in
+        (asked : Command) → Ask words.now asked
         → (stored : ℕ) → result ≡ Status.ShelfFault stored
-        → Rose (G.faults shelf.old) (G.faults shelf.new)
-        × PutsSome asked (S.left source.old) (S.left source.new)
-        (G.list shelf.old) (G.list shelf.new) (R.journal rails.old) (R.journal rails.new) stored
-        × (sink.new ≡ sink.old) }
-    ensures write_fault { (asked : Command) → command_of (texts_of words.now) ≡ Some asked
-        → result ≡ Status.WriteFault
-        → Rose (K.faults sink.old) (K.faults sink.new)
-        × WritesSome asked (S.left source.old) (S.left source.new)
-        (K.held sink.old) (K.held sink.new) (G.list shelf.old) (G.list shelf.new)
-        (R.journal rails.old) (R.journal rails.new) }
-    ensures no_memory { (asked : Command) → command_of (texts_of words.now) ≡ Some asked
-        → result ≡ Status.NoMemory
-        → StopsAnywhere asked (S.left source.old) (S.left source.new)
-        (K.held sink.old) (K.held sink.new) (G.list shelf.old) (G.list shelf.new)
-        (R.journal rails.old) (R.journal rails.new) }
+        → PutsSome asked stored (told source.old sink.old shelf.old rails.old)
+        (told source.new sink.new shelf.new rails.new)
+        × Rose (G.faults shelf.old) (G.faults shelf.new) × (sink.new ≡ sink.old) }
+    ensures write_fault { let told = world_of S.left K.held G.list R.journal S.faults K.faults G.faults in
+        (asked : Command) → Ask words.now asked → result ≡ Status.WriteFault
+        → WritesSome asked (told source.old sink.old shelf.old rails.old)
+        (told source.new sink.new shelf.new rails.new)
+        × Rose (K.faults sink.old) (K.faults sink.new) }
+    ensures no_memory { let told = world_of S.left K.held G.list R.journal S.faults K.faults G.faults in
+        (asked : Command) → Ask words.now asked → result ≡ Status.NoMemory
+        → StopsAnywhere asked (told source.old sink.old shelf.old rails.old)
+        (told source.new sink.new shelf.new rails.new) }
     // the direct machine makes no rail, and adds to no journal
-    ensures direct { command_of (texts_of words.now) ≡ Some Direct → rails.new ≡ rails.old }
+    ensures direct { Ask words.now Direct → rails.new ≡ rails.old }
     // refused bytes are told as such, and accepted ones are run, where no count of faults rose
     ensures refused { (left : List ℕ) (asked : Command) (error : ScriptError)
-        → S.left source.old ≡ Some left
-        → command_of (texts_of words.now) ≡ Some asked
+        → S.left source.old ≡ Some left → Ask words.now asked
         → script_of (take (most_bytes + 1) left) ≡ Err error
         → ¬ Rose (S.faults source.old) (S.faults source.new)
         → (result ≡ Status.BadScript error) ⊎ (result ≡ Status.NoMemory) }
     ensures complete { (left : List ℕ) (asked : Command) (script : Script)
-        → S.left source.old ≡ Some left
-        → command_of (texts_of words.now) ≡ Some asked → script_of left ≡ Ok script
+        → S.left source.old ≡ Some left → Ask words.now asked
+        → script_of left ≡ Ok script
         → ¬ Rose (S.faults source.old) (S.faults source.new)
         → ¬ Rose (K.faults sink.old) (K.faults sink.new)
         → ¬ Rose (G.faults shelf.old) (G.faults shelf.new)
         → (result ≡ Status.Ok) ⊎ (result ≡ Status.NoMemory) }
 {
-    let Some(asked) = command_in(words) else {
+    let Some(asked) = command(words) else {
         return Status::BadWords;
     };
     let bytes = match read_up_to(alloc, source, ENOUGH) {
@@ -101,7 +100,7 @@ pub fn replay_alone<T: Threads + Sync, S: Source, K: Sink, G: Shelf, R: RailMake
         Err(ReadRefusal::Bad(error)) => return Status::BadScript(error),
         Err(ReadRefusal::NoMemory) => return Status::NoMemory,
     };
-    match run_command(rt, alloc, rails, asked, &script) {
+    match run_command(rt, alloc, rails, asked, ONLY_NUMBER, &script) {
         Ok(output) => deliver(sink, shelf, output.images.as_slice(), output.report.bytes()),
         Err(_) => Status::NoMemory,
     }

@@ -1,6 +1,6 @@
 use Rattle.std.proofs.Common.{◌∙◌}
-use Rattle.replay_core.specs.Words.{texts_of}
-use Rattle.replay_core.proofs.Rails.{asks_inline}
+use Rattle.replay_text.specs.Words.{texts_of}
+use Rattle.replay_text.proofs.Rails.{asks_inline}
 use Rattle.replay_core.proofs.tests.runs.replay_over.Goals as goal
 
 pub replay_alone-status-requires-clause-kind : goal.replay_alone-status-requires-clause-kind

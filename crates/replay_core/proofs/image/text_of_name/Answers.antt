@@ -1,5 +1,0 @@
-use Rattle.replay_core.proofs.NameLemmas.{names_are_text}
-use Rattle.replay_core.proofs.image.text_of_name.Goals as goal
-
-pub returns-in-Err : goal.returns-in-Err
-returns-in-Err c = absurd (c.in-Err.ensures.cases.0 (names_are_text _ c.as_bytes.ensures.name))

@@ -1,0 +1,33 @@
+use Rattle.std.proofs.Common.{ap, sym, ◌∙◌, replicate}
+use Rattle.script_reader.specs.declared.script.ContextSpec.{ContextSpec}
+use Rattle.soft_driver.specs.Own.{Own, first_own}
+use Rattle.soft_driver.specs.Soft.{own_tracked}
+use Rattle.replay_core.specs.Plain.{PlainView}
+use Rattle.replay_core.proofs.DirectLemmas.{first_own-tracked}
+use Rattle.replay_core.specs.Script.{seen_script}
+use Rattle.replay_core.proofs.Endings.{carried_to_end}
+use Rattle.replay_core.proofs.plain.direct.Goals as goal
+
+pub carry_out-requires-clause-tracked : goal.carry_out-requires-clause-tracked
+carry_out-requires-clause-tracked g c κs live =
+    ap (λ (p : PlainView Own). own_tracked p.driver) c.new-plain.ensures ∙ ap own_tracked c.in_ok-soft.ensures
+    ∙ first_own-tracked c.args.context c.only_context-sides.result.width c.only_context-sides.result.height
+    ∙ sym (ap (λ (p : PlainView Own). p.here.tracked) c.new-plain.ensures)
+
+pub returns-clause-told : goal.returns-clause-told
+returns-clause-told g c =
+    let sides = c.only_context-sides.ensures.context in
+    let at_end = carried_to_end c.args.context (seen_script c.args.script.now) c.in_ok-soft.soft c.in_ok-memory.memory c.as_slice.result.now
+    (c.in_ok-soft.ensures ∙ ap (λ (k : ContextSpec). first_own c.args.context k.width k.height) sides)
+    (c.in_ok-memory.ensures.ok ∙ ap (λ (k : ContextSpec). replicate k.memory 0) sides)
+    c.as_slice.ensures c.new-plain.result c.carry_out.new.self c.new-plain.ensures c.in_ok-carry_out.ensures in
+    c.into_parts-soft.ensures.told ∙ at_end.is_told
+
+pub returns-clause-soft : goal.returns-clause-soft
+returns-clause-soft g c =
+    let sides = c.only_context-sides.ensures.context in
+    let at_end = carried_to_end c.args.context (seen_script c.args.script.now) c.in_ok-soft.soft c.in_ok-memory.memory c.as_slice.result.now
+    (c.in_ok-soft.ensures ∙ ap (λ (k : ContextSpec). first_own c.args.context k.width k.height) sides)
+    (c.in_ok-memory.ensures.ok ∙ ap (λ (k : ContextSpec). replicate k.memory 0) sides)
+    c.as_slice.ensures c.new-plain.result c.carry_out.new.self c.new-plain.ensures c.in_ok-carry_out.ensures in
+    c.into_parts-soft.ensures.driver ∙ at_end.is_own

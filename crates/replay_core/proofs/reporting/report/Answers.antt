@@ -1,0 +1,14 @@
+use Rattle.std.proofs.Common.{◌++◌, ap, ◌∙◌, codes}
+use Rattle.replay_text.specs.Text.{number_line, plain_line}
+use Rattle.replay_core.specs.Report.{answer_lines, counted, report_text, tally_line}
+use Rattle.replay_core.proofs.Flats.{parts_of_report}
+use Rattle.replay_core.proofs.reporting.report.Goals as goal
+
+pub returns : goal.returns
+unfolding report_text
+returns c =
+    let counts = tally_line c.args.context (counted c.args.counts.now) in
+    let images = number_line (codes "images") c.args.images in
+    let last = plain_line (codes "end") in
+    c.in_ok-end.ensures ∙ ap (λ text. text ++ (images ++ last)) (c.in_ok-counts.ensures.ok ∙ ap (λ text. text ++ counts) c.in_ok-text.ensures)
+    ∙ parts_of_report (plain_line (codes "glreport 1")) (answer_lines c.args.results.now) counts images last

@@ -1,0 +1,124 @@
+//! Running a script's context over a rail: a front is made for its lines, and the driver comes back.
+
+ghost use Rattle.std.specs.Prelude.{◌≡◌, ◌≤◌, ◌<◌, length, IfOk, OnOk, OnErr};
+ghost use Rattle.std.specs.List.{All};
+ghost use Rattle.batch_pack.specs.Batch.{IsBatchSize};
+ghost use Rattle.batch_rail.specs.Maker.{IsLaunched, IsRingLength};
+ghost use Rattle.gl_tracked.specs.Tracked.{first_tracked};
+ghost use Rattle.client_shadow.specs.Cutting.{tally_of};
+ghost use Rattle.script_reader.specs.Limits.{IsLine};
+ghost use Rattle.replay_lines.specs.Lines.{lines_in};
+ghost use Rattle.replay_core.specs.Calls.{calls_of};
+ghost use Rattle.replay_core.specs.Direct.{end_of};
+ghost use Rattle.replay_core.specs.Journals.{batches_of, HandsOver, HandsOverSome};
+ghost use Rattle.replay_core.specs.Rail.{GainsSome, RunsOver};
+ghost use Rattle.replay_core.specs.Report.{counted};
+ghost use Rattle.replay_core.specs.Script.{IsOneContext, seen_script, most_lines};
+
+use crate::plain::only_context;
+use batch_rail::{Rail, RailMaker};
+use driver_trait::Driver;
+use gl_front::{Counts, Front};
+use gl_memory::ClientMemory;
+use replay_lines::{Results, run_lines};
+use script_reader::{Line, Script};
+use soft_driver::Soft;
+use std::alloc::{AllocError as NoMemory, Global};
+use std::thread::Threads;
+
+/// What a run over a rail leaves: what was told, in order, the counts, and the context at the end; own.
+#[derive(Drop)]
+pub struct RailRun {
+    pub results: Results,
+    pub counts: Counts,
+    pub soft: Soft,
+}
+
+/// Runs a script's context, of this number, over a rail of this maker, in batches of so many slots. The rail is closed
+/// on every way out; own.
+pub fn run_script<T: Threads + Sync, R: RailMaker<Soft>>(
+    rt: &T,
+    alloc: Global,
+    rails: &mut R,
+    batch: u32,
+    ring: u32,
+    context: u32,
+    script: &Script,
+) -> Result<RailRun, NoMemory>
+    requires batch { IsBatchSize batch }
+    requires ring { IsRingLength ring }
+    requires context { context < 4 }
+    requires contexts { IsOneContext script.now.contexts }
+    requires few { length script.now.lines ≤ most_lines }
+    requires lines { All IsLine script.now.lines }
+    ensures told { IfOk result
+        (λ done. done.results ≡ (end_of context (seen_script script.now)).told) }
+    ensures soft { IfOk result
+        (λ done. done.soft ≡ (end_of context (seen_script script.now)).own) }
+    ensures counts { IfOk result (λ done. counted done.counts
+        ≡ tally_of batch (calls_of batch context (seen_script script.now))) }
+    ensures journal { OnOk result
+        (HandsOver context (batches_of batch context (seen_script script.now))
+        (R.journal rails.old) (R.journal rails.new)) }
+    ensures stopped { OnErr result
+        (HandsOverSome context (R.journal rails.old) (R.journal rails.new)) }
+{
+    let sides = only_context(script);
+    let memory = ClientMemory::new(alloc, sides.memory)?;
+    let driver = Soft::new(alloc, context, sides.width, sides.height)?;
+    let rail = match rails.launch(alloc, context, driver, batch, ring) {
+        Ok(rail) => rail,
+        Err((_driver, refusal)) => return Err(refusal),
+    };
+    let (ran, rail) = run_over(rt, alloc, rail, memory, context, script.lines.as_slice());
+    let closed = rails.close(context, rail);
+    let LinesRun { results, counts } = ran?;
+    let soft = closed?;
+    Ok(RailRun {
+        results,
+        counts,
+        soft,
+    })
+}
+
+/// What a run of lines leaves: what was told, in order, and the counts.
+#[derive(Drop)]
+pub(crate) struct LinesRun {
+    results: Results,
+    counts: Counts,
+}
+
+/// Runs the lines of a context over a rail, through a front that is made for them. The rail is given back on every way
+/// out, with no batch open.
+pub(crate) fn run_over<T: Threads + Sync, D: Driver, R: Rail<D>>(
+    rt: &T,
+    alloc: Global,
+    rail: R,
+    memory: ClientMemory,
+    context: u32,
+    lines: &[Line],
+) -> (Result<LinesRun, NoMemory>, R)
+    requires launched { IsLaunched D.tracked (R.stands rail) (R.failed rail) (R.home rail)
+        (R.size rail) first_tracked }
+    requires none_sent { R.sent rail ≡ 0 }
+    requires few { length lines.now ≤ most_lines }
+    requires lines { All IsLine lines.now }
+    ensures home { R.home result.1 }
+    ensures ok { IfOk result.0 (λ ran. RunsOver D.tracked D.steps R.stands R.journal (R.size rail)
+        (lines_in context lines.now) memory rail result.1 ran.results ran.counts) }
+    ensures stopped { OnErr result.0 (GainsSome (R.journal rail) (R.journal result.1)) }
+{
+    let mut front = match Front::new(alloc, rail, memory) {
+        Ok(front) => front,
+        Err((rail, _memory, refusal)) => return (Err(refusal), rail),
+    };
+    let mut results = Results::new(alloc);
+    let ran = run_lines(rt, alloc, &mut front, context, lines, &mut results);
+    front.flush(rt);
+    let counts = front.counts();
+    let (rail, _memory) = front.into_parts();
+    match ran {
+        Ok(()) => (Ok(LinesRun { results, counts }), rail),
+        Err(refusal) => (Err(refusal), rail),
+    }
+}
