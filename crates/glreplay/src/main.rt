@@ -3,7 +3,8 @@
 
 use batch_rail::InlineMaker;
 use gl_outside::{FolderShelf, StdinSource, StdoutSink};
-use replay_core::{Status, exit_code, replay_alone};
+use replay_core::replay_alone;
+use replay_text::{Status, exit_code};
 use std::io::ErrorKind;
 use std::process::ExitCode;
 use std::rt::Env;
@@ -55,24 +56,23 @@ fn told(rt: HostRuntime, status: &Status) -> ExitCode {
     ExitCode::from(exit_code(status))
 }
 
-fn main(rt: HostRuntime) -> io::Result<ExitCode> {
+fn main(rt: HostRuntime) -> ExitCode {
     let words = match words_of(&rt) {
         Ok(words) => words,
-        Err(error) if error.kind() == ErrorKind::InvalidData => return Ok(told(
-            rt,
-            &Status::BadWords,
-        )),
-        Err(_) => return Ok(told(rt, &Status::NoMemory)),
+        Err(error) if error.kind() == ErrorKind::InvalidData => return told(rt, &Status::BadWords),
+        Err(_) => return told(rt, &Status::NoMemory),
     };
     if let Some(text) = asked_text(&words) {
         return match print!(rt; "{text}") {
-            Ok(()) => Ok(told(rt, &Status::Ok)),
-            Err(_) => Ok(told(rt, &Status::WriteFault)),
+            Ok(()) => told(rt, &Status::Ok),
+            Err(_) => told(rt, &Status::WriteFault),
         };
     }
     let mut source = StdinSource::new(&rt);
     let mut sink = StdoutSink::new(rt);
-    let folder = String::from_str(rt.alloc(), ".")?;
+    let Ok(folder) = String::from_str(rt.alloc(), ".") else {
+        return told(rt, &Status::NoMemory);
+    };
     let mut shelf = FolderShelf::new(rt, rt.alloc(), folder);
     let mut rails = InlineMaker::new();
     let status = replay_alone(
@@ -84,5 +84,5 @@ fn main(rt: HostRuntime) -> io::Result<ExitCode> {
         &mut shelf,
         &mut rails,
     );
-    Ok(told(rt, &status))
+    told(rt, &status)
 }

@@ -1,5 +1,5 @@
-use Rattle.replay_core.specs.Words.{texts_of}
-use Rattle.replay_core.proofs.Rails.{asks_inline}
+use Rattle.replay_text.specs.Words.{texts_of}
+use Rattle.replay_text.proofs.Rails.{asks_inline}
 use Rattle.glreplay.proofs.main.Goals as goal
 
 pub replay_alone-status-requires-clause-kind : goal.replay_alone-status-requires-clause-kind
