@@ -7,7 +7,7 @@ from pathlib import Path
 
 TOP = Path(__file__).resolve().parent.parent
 WORDS = TOP / "crates/gl_words"
-DRIVER = TOP / "crates/driver_trait"
+TRACKED = TOP / "crates/gl_tracked"
 SHADOW = TOP / "crates/client_shadow"
 KINDS = {"Enum": "enumerant", "Unsigned": "unsigned", "Int": "integer", "Fixed": "fixed", "Bool": "truth", "Pointer": "address"}
 
@@ -20,6 +20,15 @@ def definition(path, name):
         if found and found.group(1) != ":":
             rows[found.group(1)] = found.group(2).strip()
     return rows
+
+
+def calls(path):
+    """What the rows of the table of calls say, by name: number, kinds, and whether the call is answered."""
+    row = r"^row_of \(?gl\.(\w+)[^=]*= (does|asks) (\d+) \(codes \"(\w+)\"\) (\[\]|\([^)]*\)) gl\.(\w+)"
+    found = re.findall(row, path.read_text(), re.M)
+    assert all(variant == name == made for variant, _, _, name, _, made in found)
+    kinds = {name: re.findall(r"\w+", listed) for _, _, _, name, listed, _ in found}
+    return {name: number for _, _, number, name, _, _ in found}, kinds, {name: part == "asks" for _, part, _, name, _, _ in found}
 
 
 def table(title):
@@ -37,7 +46,7 @@ def numbers(path, *names):
 
 def gets():
     """The numbers of the names that each get takes, by whether they are of tracked state, as the code has them."""
-    path, tracked = DRIVER / "specs/Gets.antt", DRIVER / "specs/Tracked.antt"
+    path, tracked = TRACKED / "specs/Gets.antt", TRACKED / "specs/Tracked.antt"
     return {
         ("GetIntegerv", True): numbers(path, "mode_rows", "array_rows", "buffer_rows"),
         ("GetPointerv", True): numbers(path, "pointer_rows"),
@@ -50,21 +59,21 @@ def gets():
 
 def classes(answering):
     """The calls of each class, as the code has them."""
-    asked = re.findall(r"^number_asked tracked \((\w+)", (DRIVER / "specs/Step.antt").read_text(), re.M)
+    asked = re.findall(r"^number_asked tracked \((\w+)", (TRACKED / "specs/Step.antt").read_text(), re.M)
     finish = definition(SHADOW / "specs/Class.antt", "is_finish")
-    waits = [name for name in answering if "true" in (answering[name], finish.get(name))]
+    waits = [name for name in answering if answering[name] or finish.get(name) == "true"]
     return {"Answer": sorted(asked), "Sync": sorted(waits), "Defer": sorted(set(answering) - set(waits))}
 
 
 def main():
     call = WORDS / "specs/Call.antt"
-    ids, kinds, answering = definition(call, "id_of"), definition(call, "kinds_of"), definition(call, "is_answering")
+    ids, kinds, answering = calls(call)
     wrong = []
     rows = table("Calls")
     for number, name, arguments, _, answered in rows:
         said = [] if arguments == "none" else [argument.split()[0] for argument in arguments.split(", ")]
-        has = [KINDS[kind] for kind in re.findall(r"\w+", kinds.get(name, "")) if kind in KINDS]
-        if ids.get(name) != number or said != has or (answered == "yes") != (answering.get(name) == "true"):
+        has = [KINDS[kind] for kind in kinds.get(name, [])]
+        if ids.get(name) != number or said != has or (answered == "yes") != answering.get(name):
             wrong.append(f"PROFILE.md, Calls: {name} differs from crates/gl_words/specs/Call.antt")
     if sorted(ids) != sorted(row[1] for row in rows):
         wrong.append("PROFILE.md, Calls: not the calls of crates/gl_words/specs/Call.antt")
@@ -80,7 +89,7 @@ def main():
             if [named.get(name) for name in row[1].split(", ")] != [int(number, 0) for number in row[2].split(", ")]:
                 wrong.append(f"PROFILE.md, Names of the gets: {row[1]} differs from crates/gl_words/specs/Names.antt")
     if {key: sorted(found) for key, found in said.items()} != gets():
-        wrong.append("PROFILE.md, Names of the gets: differs from crates/driver_trait/specs/Gets.antt")
+        wrong.append("PROFILE.md, Names of the gets: differs from crates/gl_tracked/specs/Gets.antt")
     known = {}
     for row in table("Names"):
         known.update(zip(row[1].split(", "), row[2].split(", "), strict=True))
