@@ -1,23 +1,44 @@
 -- Integers and the values that a call holds for them: what is read of integers of the right kinds, and that values are read again from the integers that they are.
-use Rattle.std.proofs.Common.{◌≡◌, ℕ, zero, suc, ℤ, pos, negsuc, Bool, true, false, cond, List, [], ◌∷◌, length, drop, refl, sym, ap, ◌∙◌, arith, subst, Some, None, Option, slice_index_or, to_z, of_z}
+use Rattle.std.proofs.Common.{◌≡◌, ℕ, zero, suc, ℤ, pos, negsuc, Bool, true, false, cond, List, [], ◌∷◌, length, drop, map, ◌<◌, ◌^◌, ◌%◌, ◌-◌, refl, ap, ◌∙◌, arith, Some, Option, slice_index_or, to_z, of_z}
 use Rattle.std.specs.Prelude.{unwrap_or, is_some, FitsSigned}
 use Rattle.std.specs.Int.{FitsUnsigned, w32}
 use Rattle.std.proofs.lemmas.Bool.Decides.{nat_tests}
-use Rattle.std.proofs.lemmas.Int.{to_z-of_z}
+use Rattle.std.proofs.lemmas.Int.{ints, to_z-of_z, of_z-to_z}
 use Rattle.gl_words.specs.Kind.{IsOfKind, AreOfKinds}
-use Rattle.gl_words.specs.Making.{unsigned_of, signed_of, truth_of, is_of_kind, fits, Value, Values, truth_number, integer_of, integers, signed_at, unsigned_at, truth_at, value_at, values_at}
+use Rattle.gl_words.specs.Making.{unsigned_of, signed_of, truth_of, is_of_kind, fits, low_bits, Value, Values, truth_number, integer_of, integers, signed_at, unsigned_at, truth_at, value_at, values_at}
 use Rattle.gl_words.specs.declared.shape.ArgKind.{ArgKind}
 use Rattle.gl_words.specs.declared.shape.ArgKind.TheVariants.{Enum, Unsigned, Int, Fixed, Bool as Truth, Pointer}
 
 -- ---- one argument
 
-unsigned_is : (z : ℤ) → is_some (unsigned_of z) ≡ true → (pos (unwrap_or (unsigned_of z) 0) ≡ z) × FitsUnsigned w32 z
-unsigned_is (pos n) h = grind (arith, nat_tests)
-unsigned_is (negsuc n) h = absurd (cc)
+small : (n : ℕ) → n < 2 ^ 32 → n % 2 ^ 32 ≡ n
+small n h = omega arith
 
-signed_is : (z : ℤ) → is_some (signed_of z) ≡ true → (unwrap_or (signed_of z) (pos 0) ≡ z) × FitsSigned w32 z
-signed_is (pos n) h = grind (arith, nat_tests)
-signed_is (negsuc n) h = grind (arith, nat_tests)
+-- an integer in the range of its kind is its low 32 bits
+unsigned_back : (z : ℤ) → FitsUnsigned w32 z → pos (low_bits z) ≡ z
+unsigned_back (pos n) h = ap pos (small n (omega (arith, ints)))
+unsigned_back (negsuc n) h = absurd (omega arith)
+
+low_bits-is : (z : ℤ) → FitsSigned w32 z → low_bits z ≡ of_z w32 z
+low_bits-is (pos n) h = small n (omega (arith, ints))
+low_bits-is (negsuc n) h = ap (λ (m : ℕ). 2 ^ 32 - suc m) (small n (omega (arith, ints)))
+
+signed_back : (z : ℤ) → FitsSigned w32 z → to_z w32 (low_bits z) ≡ z
+signed_back z h = ap (to_z w32) (low_bits-is z h) ∙ to_z-of_z w32 z h
+
+unsigned_fits : (z : ℤ) → is_some (unsigned_of z) ≡ true → FitsUnsigned w32 z
+unsigned_fits (pos n) h = grind (arith, nat_tests)
+unsigned_fits (negsuc n) h = absurd (cc)
+
+signed_fits : (z : ℤ) → is_some (signed_of z) ≡ true → FitsSigned w32 z
+signed_fits (pos n) h = grind (arith, nat_tests)
+signed_fits (negsuc n) h = grind (arith, nat_tests)
+
+unsigned_is : (z : ℤ) → is_some (unsigned_of z) ≡ true → (pos (low_bits z) ≡ z) × FitsUnsigned w32 z
+unsigned_is z h = let fits = unsigned_fits z h in (unsigned_back z fits, fits)
+
+signed_is : (z : ℤ) → is_some (signed_of z) ≡ true → (to_z w32 (low_bits z) ≡ z) × FitsSigned w32 z
+signed_is z h = let fits = signed_fits z h in (signed_back z fits, fits)
 
 truth_is : (z : ℤ) → is_some (truth_of z) ≡ true → (truth_number (unwrap_or (truth_of z) false) ≡ z) × IsOfKind Truth z
 truth_is (pos zero) h = (refl, (omega arith, omega arith))
@@ -27,12 +48,12 @@ truth_is (negsuc n) h = absurd (cc)
 
 -- what a call holds for an integer
 abbrev pub value_of : (kind : ArgKind) → ℤ → Value kind
-value_of Enum z = unwrap_or (unsigned_of z) 0
-value_of Unsigned z = unwrap_or (unsigned_of z) 0
-value_of Int z = unwrap_or (signed_of z) (pos 0)
-value_of Fixed z = unwrap_or (signed_of z) (pos 0)
+value_of Enum z = low_bits z
+value_of Unsigned z = low_bits z
+value_of Int z = to_z w32 (low_bits z)
+value_of Fixed z = to_z w32 (low_bits z)
 value_of Truth z = unwrap_or (truth_of z) false
-value_of Pointer z = unwrap_or (unsigned_of z) 0
+value_of Pointer z = low_bits z
 
 -- an integer of a kind is in range, and is the value that is held for it
 value_is : (kind : ArgKind) (z : ℤ) → is_of_kind kind z ≡ true → (integer_of kind (value_of kind z) ≡ z) × IsOfKind kind z
@@ -43,8 +64,8 @@ value_is Fixed z h = signed_is z h
 value_is Truth z h = truth_is z h
 value_is Pointer z h = unsigned_is z h
 
-unsigned_again : (n : ℕ) → FitsUnsigned w32 (pos n) → unsigned_of (pos n) ≡ Some n
-unsigned_again n h = grind (arith, nat_tests)
+unsigned_again : (n : ℕ) → FitsUnsigned w32 (pos n) → low_bits (pos n) ≡ n
+unsigned_again n h = small n (omega (arith, ints))
 
 signed_again : (z : ℤ) → FitsSigned w32 z → signed_of z ≡ Some z
 signed_again (pos n) h = grind (arith, nat_tests)
@@ -56,12 +77,12 @@ truth_again true = refl
 
 -- a value in range is held for the integer that it is
 value_again : (kind : ArgKind) (value : Value kind) → IsOfKind kind (integer_of kind value) → value_of kind (integer_of kind value) ≡ value
-value_again Enum value h = ap (λ (o : Option ℕ). unwrap_or o 0) (unsigned_again value h)
-value_again Unsigned value h = ap (λ (o : Option ℕ). unwrap_or o 0) (unsigned_again value h)
-value_again Int value h = ap (λ (o : Option ℤ). unwrap_or o (pos 0)) (signed_again value h)
-value_again Fixed value h = ap (λ (o : Option ℤ). unwrap_or o (pos 0)) (signed_again value h)
+value_again Enum value h = unsigned_again value h
+value_again Unsigned value h = unsigned_again value h
+value_again Int value h = signed_back value h
+value_again Fixed value h = signed_back value h
 value_again Truth value h = truth_again value
-value_again Pointer value h = ap (λ (o : Option ℕ). unwrap_or o 0) (unsigned_again value h)
+value_again Pointer value h = unsigned_again value h
 
 unsigned_passes : (z : ℤ) → FitsUnsigned w32 z → is_some (unsigned_of z) ≡ true
 unsigned_passes (pos n) h = grind (arith, nat_tests)
@@ -148,18 +169,18 @@ values_at-again (kind ∷ kinds) values all at h fit =
     let others = values_at-again kinds (values.1) all (suc at) (behind.1) (fit.1) in
     ap (λ (v : Value kind). (v, values_at kinds all (suc at))) first ∙ ap (λ (vs : Values kinds). (values.0, vs)) others
 
-signed_in_range : (o : Option ℤ) → ((z : ℤ) → o ≡ Some z → FitsSigned w32 z) → FitsSigned w32 (unwrap_or o (pos 0))
-signed_in_range None h = omega arith
-signed_in_range (Some z) h = h z refl
-
-signed_of-in_range : (z y : ℤ) → signed_of z ≡ Some y → FitsSigned w32 y
-signed_of-in_range (pos n) y h = grind (arith, nat_tests)
-signed_of-in_range (negsuc n) y h = grind (arith, nat_tests)
+low_bits-below : (z : ℤ) → low_bits z < 2 ^ 32
+low_bits-below (pos n) = omega arith
+low_bits-below (negsuc n) = omega arith
 
 -- a signed number is in range, so that 32 bits hold it
 pub signed_at-held : (args : List ℤ) (at : ℕ) → to_z w32 (of_z w32 (signed_at args at)) ≡ signed_at args at
 unfolding signed_at
-signed_at-held args at =
-    to_z-of_z w32 _ (signed_in_range (signed_of (slice_index_or args at (pos 0))) (λ z read. signed_of-in_range (slice_index_or args at (pos 0)) z read))
+signed_at-held args at = ap (to_z w32) (of_z-to_z w32 (low_bits (slice_index_or args at (pos 0))) (low_bits-below (slice_index_or args at (pos 0))))
+
+-- integers by themselves are those that they are
+pub map-itself : (zs : List ℤ) → map (λ z. z) zs ≡ zs
+map-itself [] = refl
+map-itself (z ∷ zs) = ap (λ (ys : List ℤ). z ∷ ys) (map-itself zs)
 
 pub ruleset made = (signed_at-held)

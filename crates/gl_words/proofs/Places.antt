@@ -1,5 +1,5 @@
 -- A table whose rows stand at the places of their numbers, against the table of calls.
-use Rattle.std.proofs.Common.{◌≡◌, ℕ, zero, suc, ◌+◌, ◌<◌, Bool, true, false, cond, eqb, List, [], ◌∷◌, map, refl, sym, ap, ◌∙◌, arith, Some, None, Option, get_or}
+use Rattle.std.proofs.Common.{◌≡◌, ℕ, zero, suc, ◌+◌, ◌<◌, Bool, true, false, cond, ◌&&◌, ◌||◌, eqb, List, [], ◌∷◌, map, refl, sym, ap, ◌∙◌, arith, Some, None, Option, get_or}
 use Rattle.std.specs.Option.{option_map}
 use Rattle.std.proofs.lemmas.Bool.{eqb-true}
 use Rattle.std.proofs.lemmas.Bool.Decides.{nat_tests}
@@ -34,14 +34,23 @@ other_number one other h = grind (arith, nat_tests)
 same_number : (one other : ℕ) → one ≡ other → eqb one other ≡ true
 same_number one other h = grind (arith, nat_tests)
 
+-- both of two truth values, and one of two
+pub by_both : {P : Type 0} (b other : Bool) → (b && other) ≡ true → (b ≡ true → other ≡ true → P) → P
+by_both true other h then_this = then_this refl h
+by_both false other h then_this = absurd (cc)
+
+pub by_either : {P : Type 0} (b other : Bool) → (b || other) ≡ true → (b ≡ true → P) → (other ≡ true → P) → P
+by_either true other h left right = left refl
+by_either false other h left right = right h
+
 -- no row has a number below that of the first place
 none_before : (rows : List (Option TableRow)) (at id : ℕ) → are_numbered at rows ≡ true → id < at → told_numbered (told_in rows) id ≡ None
 none_before [] at id h before = refl
 none_before (None ∷ rows) at id h before = none_before rows (suc at) id h (omega arith)
 none_before (Some row ∷ rows) at id h before =
-    both_true (eqb row.shape.id at) (are_numbered (suc at) rows) h (λ first others.
-    let is = eqb-true row.shape.id at first in
-    let not : eqb row.shape.id id ≡ false = grind (arith, nat_tests) in
+    both_true (eqb row.id at) (are_numbered (suc at) rows) h (λ first others.
+    let is = eqb-true row.id at first in
+    let not : eqb row.id id ≡ false = grind (arith, nat_tests) in
     rw not (none_before rows (suc at) id others (omega arith)))
 
 -- what is told at a place
@@ -56,13 +65,13 @@ there [] at id (suc k) h is = refl
 there (None ∷ rows) at id zero h is = none_before rows (suc at) id h (omega arith)
 there (None ∷ rows) at id (suc k) h is = there rows (suc at) id k h (omega arith)
 there (Some row ∷ rows) at id zero h is =
-    both_true (eqb row.shape.id at) (are_numbered (suc at) rows) h (λ first others.
-    let same = eqb-true row.shape.id at first in
-    rw (same_number row.shape.id id (omega arith)) refl)
+    both_true (eqb row.id at) (are_numbered (suc at) rows) h (λ first others.
+    let same = eqb-true row.id at first in
+    rw (same_number row.id id (omega arith)) refl)
 there (Some row ∷ rows) at id (suc k) h is =
-    both_true (eqb row.shape.id at) (are_numbered (suc at) rows) h (λ first others.
-    let same = eqb-true row.shape.id at first in
-    rw (other_number row.shape.id id (omega arith)) (there rows (suc at) id k others (omega arith)))
+    both_true (eqb row.id at) (are_numbered (suc at) rows) h (λ first others.
+    let same = eqb-true row.id at first in
+    rw (other_number row.id id (omega arith)) (there rows (suc at) id k others (omega arith)))
 
 -- what is told of the call with a number is what stands at its place
 pub told-numbered : (rows : List (Option TableRow)) (id : ℕ) → IsTable rows → option_map told (call_numbered id) ≡ told_at (get_or rows id None)

@@ -1,10 +1,13 @@
 -- The table of shapes, as the columns of the table of calls.
-use Rattle.std.proofs.Common.{◌≡◌, ℕ, ◌≤◌, List, [], ◌∷◌, length, map, refl, sym, ap, ◌∙◌, lit≤, subst, Some, None, Option, IfSome, IsSomeAnd}
+use Rattle.std.proofs.Common.{◌≡◌, ◌≢◌, ℕ, ◌≤◌, List, [], ◌∷◌, length, map, refl, sym, ap, ◌∙◌, subst, Some, None, Option, IfSome, IsSomeAnd}
 use Rattle.std.specs.Option.{option_map}
 use Rattle.std.specs.Str.{bytes_eq}
 use Rattle.std.proofs.lemmas.Slice.Eq.{bytes_eq-Decides}
-use Rattle.gl_words.proofs.Rows.{by_test, few_kinds}
-use Rattle.gl_words.specs.Table.{Told, told, told_by, told_in, named_in, IsTable}
+use Rattle.gl_words.proofs.Counts.{row_is, no_row_missing}
+use Rattle.gl_words.proofs.Places.{IsFound}
+use Rattle.gl_words.proofs.Rows.{by_test, few_kinds, call_numbered-is}
+use Rattle.gl_words.specs.CallOf.{call_numbered}
+use Rattle.gl_words.specs.Table.{Told, told, told_by}
 use Rattle.gl_words.specs.declared.table.TableRow.{TableRow}
 use Rattle.gl_words.specs.Call.{name_of, id_of, kinds_of, each_call}
 use Rattle.gl_words.specs.Lookup.{found_in}
@@ -35,6 +38,10 @@ each_call_is_found _ = refl
 none_is_not_some : {X : Type 0} (x : X) → None ≡ Some x → ⊥
 none_is_not_some x h = absurd (cc)
 
+none_where_not_some : {X : Type 0} → (o : Option X) → ((x : X) → o ≡ Some x → ⊥) → o ≡ None
+none_where_not_some None h = refl
+none_where_not_some (Some x) h = absurd (h x refl)
+
 some_is_some : {X : Type 0} (x y : X) → Some x ≡ Some y → x ≡ y
 some_is_some x y h = cc
 
@@ -57,22 +64,47 @@ pub named_shape_is_short : (name : List ℕ) (result : Option Shape) → IfSome 
 named_shape_is_short name None h = tt
 named_shape_is_short name (Some shape) h = subst (λ (kinds : List ArgKind). length kinds ≤ 9) (sym (h.2.1)) (few_kinds (h.0))
 
--- ---- the code's rows
+-- ---- a row that is found by its name
 
-abbrev named : Told → List ℕ × (ℕ × List ArgKind)
-named one = (one.name, (one.id, one.kinds))
+-- the row is that of a call with this name, which its number finds
+abbrev pub IsNamed : List ℕ → TableRow → Type 0
+IsNamed name row = (call : Call) × (call_numbered row.id ≡ Some call) × (told_by row ≡ told call) × (name_of call ≡ name)
 
-named_in-told : (rows : List (Option TableRow)) → named_in rows ≡ map named (told_in rows)
-named_in-told [] = refl
-named_in-told (None ∷ rows) = named_in-told rows
-named_in-told (Some row ∷ rows) = ap (λ (pairs : List (List ℕ × (ℕ × List ArgKind))). named (told_by row) ∷ pairs) (named_in-told rows)
-
-named-told : (calls : List Call) → map named (map told calls) ≡ shape_rows calls
-named-told [] = refl
-named-told (call ∷ calls) = ap (λ (pairs : List (List ℕ × (ℕ × List ArgKind))). named (told call) ∷ pairs) (named-told calls)
-
--- the names of the code's rows are those of the table of calls
-pub shape_named-table : (rows : List (Option TableRow)) (name : List ℕ) → IsTable rows → found_in (named_in rows) name ≡ shape_named name
+-- where no call has the name, no shape has it
+pub no_shape_named : (name : List ℕ) → ((call : Call) → name_of call ≢ name) → shape_named name ≡ None
 unfolding shapes
-shape_named-table rows name h =
-    ap (λ (pairs : List (List ℕ × (ℕ × List ArgKind))). found_in pairs name) (named_in-told rows ∙ ap (map named) h.same_rows ∙ named-told each_call)
+no_shape_named name h = none_where_not_some (found_in (shape_rows each_call) name) (λ shape found. let w = found_is_of_a_call each_call name shape found in h (w.0) (w.1))
+
+-- the row of the call with a name has its shape
+pub shape_is_named : (name : List ℕ) (row : TableRow) → IsNamed name row → Some (row.id, row.kinds.now) ≡ shape_named name
+unfolding shapes
+shape_is_named name row h =
+    ap (λ (t : Told). Some (t.id, t.kinds)) (h.2) ∙ sym (each_call_is_found (h.0)) ∙ ap (found_in (shape_rows each_call)) (h.3)
+
+pub zero_is_numbered : (name : List ℕ) (row : TableRow) → IsNamed name row → call_numbered row.id ≡ Some row.call
+zero_is_numbered name row h = h.1 ∙ ap (λ (t : Told). Some t.call) (sym (h.2))
+
+pub zero_has_kinds : (name : List ℕ) (row : TableRow) → IsNamed name row → row.kinds.now ≡ kinds_of row.call
+zero_has_kinds name row h = ap (λ (t : Told). t.kinds) (h.2) ∙ ap (λ (t : Told). kinds_of t.call) (sym (h.2))
+
+-- a row that is found by a number has it
+pub found_has_number : (id : ℕ) (row : TableRow) (found : IsFound id row) → row.id ≡ id
+found_has_number id row found = ap (λ (t : Told). t.id) (found.2) ∙ call_numbered-is id (found.0) (found.1)
+
+pub found_is_named : (id : ℕ) (row : TableRow) (name : List ℕ) → IsFound id row → row.name.now ≡ name → IsNamed name row
+found_is_named id row name found same =
+    (found.0, ap call_numbered (found_has_number id row found) ∙ found.1, found.2, ap (λ (t : Told). t.name) (sym (found.2)) ∙ same)
+
+-- a number at which no call stands, or one with another name, is that of no call with the name
+pub not_named_where_none : (id : ℕ) (name : List ℕ) → call_numbered id ≡ None → (call : Call) → id_of call ≡ id → name_of call ≢ name
+not_named_where_none id name none call same is = no_row_missing call id (sym same) none
+
+pub not_named_where_other : (id : ℕ) (row : TableRow) (name : List ℕ) → IsFound id row → row.name.now ≢ name → (call : Call) → id_of call ≡ id → name_of call ≢ name
+not_named_where_other id row name found not call same is = not ((row_is row call id (sym same) found).same_name ∙ is)
+
+-- the shape of the row is that of each call with the name
+pub shape_is_of : (name : List ℕ) (row : TableRow) → IsNamed name row → (call : Call) → name_of call ≡ name → (row.id ≡ id_of call) × (row.kinds.now ≡ kinds_of call)
+shape_is_of name row h call same =
+    let e : Some (row.id, row.kinds.now) ≡ Some (shape_of call) =
+    ap (λ (t : Told). Some (t.id, t.kinds)) (h.2) ∙ sym (each_call_is_found (h.0)) ∙ ap (found_in (shape_rows each_call)) (h.3 ∙ sym same) ∙ each_call_is_found call in
+    (ap (λ (s : ℕ × List ArgKind). s.0) (some_is_some _ _ e), ap (λ (s : ℕ × List ArgKind). s.1) (some_is_some _ _ e))

@@ -1,16 +1,16 @@
 -- Calls that are made of slots: what their arguments are, and that each call is made of its own.
-use Rattle.std.proofs.Common.{◌≡◌, ℕ, zero, suc, ◌<◌, Bool, true, false, cond, List, [], ◌∷◌, ◌++◌, length, map, take, drop, get_or, ◌≢◌, Fits, w64, refl, sym, ap, ◌∙◌, arith, subst, Some, None, Option, option_and_then, ℤ, pos}
+use Rattle.std.proofs.Common.{◌≡◌, ℕ, zero, suc, ◌<◌, List, [], ◌∷◌, ◌++◌, length, map, take, drop, get_or, ◌≢◌, Fits, w64, refl, sym, ap, ◌∙◌, arith, Some, None, Option, option_and_then, IfSome, ℤ, pos}
 use Rattle.std.specs.Prelude.{FitsSigned, unwrap_or}
 use Rattle.std.specs.Int.{cast_signed}
 use Rattle.std.proofs.lemmas.Int.{ints, to_z-of_z, of_z-to_z}
-use Rattle.std.proofs.lemmas.List.{length-map, length-take-le, take_at, take-append-drop}
+use Rattle.std.proofs.lemmas.List.{length-map, take_at, take-append-drop}
 use Rattle.gl_words.specs.Kind.{AreOfKinds, IsOfKind}
 use Rattle.gl_words.specs.Call.{id_of, kinds_of, arguments, IsInRange}
 use Rattle.gl_words.specs.CallOf.{call_numbered, made_of, call_of, argument_count}
 use Rattle.gl_words.specs.Making.{fits}
 use Rattle.gl_words.specs.Slots.{slot_of, numbers_in, call_begun}
-use Rattle.gl_words.specs.Table.{Told, told, told_by}
-use Rattle.gl_words.proofs.Counts.{argument_count-found, argument_count-none}
+use Rattle.gl_words.specs.Table.{Told}
+use Rattle.gl_words.proofs.Counts.{argument_count-found}
 use Rattle.gl_words.proofs.Makings.{fits-length}
 use Rattle.gl_words.proofs.Places.{IsFound, by_truth}
 use Rattle.gl_words.proofs.Rows.{argument_count-again, call_of-is, call_of-again}
@@ -71,7 +71,7 @@ pub call_of-none : (id : ℕ) (zs : List ℤ) → call_numbered id ≡ None → 
 unfolding call_of
 call_of-none id zs none = ap (λ (o : Option Call). option_and_then (λ (row : Call). made_of row zs) o) none
 
-call_of-found : (id : ℕ) (call : Call) (zs : List ℤ) → call_numbered id ≡ Some call → call_of id zs ≡ made_of call zs
+pub call_of-found : (id : ℕ) (call : Call) (zs : List ℤ) → call_numbered id ≡ Some call → call_of id zs ≡ made_of call zs
 unfolding call_of
 call_of-found id call zs found = ap (λ (o : Option Call). option_and_then (λ (row : Call). made_of row zs) o) found
 
@@ -83,7 +83,7 @@ made_of-short call zs not =
     (λ none. rw none refl)
 
 -- where the row of the number has another count of arguments there is no call
-pub call_of-short : (id : ℕ) (row : TableRow) (zs : List ℤ) → IsFound id row → length row.shape.kinds.now ≢ length zs → call_of id zs ≡ None
+pub call_of-short : (id : ℕ) (row : TableRow) (zs : List ℤ) → IsFound id row → length row.kinds.now ≢ length zs → call_of id zs ≡ None
 call_of-short id row zs found not =
     call_of-found id (found.0) zs (found.1)
     ∙ made_of-short (found.0) zs (λ same. not (ap (λ (t : Told). length t.kinds) (found.2) ∙ same))
@@ -99,7 +99,7 @@ pub call_begun-none : (id : ℕ) (slots : List ℕ) → call_numbered id ≡ Non
 unfolding call_begun
 call_begun-none id slots none = call_of-none id _ none
 
-count_is : (id : ℕ) (row : TableRow) → IsFound id row → unwrap_or (argument_count id) 0 ≡ length row.shape.kinds.now
+count_is : (id : ℕ) (row : TableRow) → IsFound id row → unwrap_or (argument_count id) 0 ≡ length row.kinds.now
 count_is id row found = ap (λ (o : Option ℕ). unwrap_or o 0) (argument_count-found row id found)
 
 length-numbers_in : (slots : List ℕ) → length (numbers_in slots) ≡ length slots
@@ -111,16 +111,16 @@ few_taken zero slots h = absurd (omega arith)
 few_taken (suc n) [] h = omega arith
 few_taken (suc n) (slot ∷ slots) h = let rest = few_taken n slots (omega arith) in omega arith
 
-pub call_begun-short : (id : ℕ) (row : TableRow) (slots : List ℕ) → IsFound id row → length slots < length row.shape.kinds.now → call_begun id slots ≡ None
+pub call_begun-short : (id : ℕ) (row : TableRow) (slots : List ℕ) → IsFound id row → length slots < length row.kinds.now → call_begun id slots ≡ None
 unfolding call_begun
 call_begun-short id row slots found short =
     ap (λ (n : ℕ). call_of id (numbers_in (take n slots))) (count_is id row found)
     ∙ call_of-short id row _ found (λ same.
-    let many = length-numbers_in (take (length row.shape.kinds.now) slots) in
-    let few = few_taken (length row.shape.kinds.now) slots short in
+    let many = length-numbers_in (take (length row.kinds.now) slots) in
+    let few = few_taken (length row.kinds.now) slots short in
     absurd (omega arith))
 
-pub call_begun-row : (id : ℕ) (row : TableRow) (slots front : List ℕ) → IsFound id row → front ≡ take (length row.shape.kinds.now) slots
+pub call_begun-row : (id : ℕ) (row : TableRow) (slots front : List ℕ) → IsFound id row → front ≡ take (length row.kinds.now) slots
     → made_of row.call (numbers_in front) ≡ call_begun id slots
 unfolding call_begun
 call_begun-row id row slots front found is =
@@ -144,3 +144,12 @@ call_begun-again call more h =
     ∙ ap (λ (s : List ℕ). call_of (id_of call) (numbers_in s)) (take_at (map slot_of (arguments call)) more (length (arguments call)) (length-map (arguments call) slot_of))
     ∙ ap (call_of (id_of call)) (arguments_back call h)
     ∙ call_of-again call h
+
+-- a call that is found for a number and arguments is in range and has them, and is the only one
+pub call_is_of : (id : ℕ) (args : List ℤ) (result : Option Call) → result ≡ call_of id args → IfSome result (λ call. (id_of call ≡ id) × (arguments call ≡ args) × IsInRange call)
+call_is_of id args None h = tt
+call_is_of id args (Some call) h = call_of-is id args call (sym h)
+
+pub of_call_is : (id : ℕ) (args : List ℤ) (result : Option Call) → result ≡ call_of id args → (call : Call) → IsInRange call → id_of call ≡ id → arguments call ≡ args → result ≡ Some call
+of_call_is id args result h call in_range same_id same_arguments =
+    h ∙ ap (λ (n : ℕ). call_of n args) (sym same_id) ∙ ap (call_of (id_of call)) (sym same_arguments) ∙ call_of-again call in_range

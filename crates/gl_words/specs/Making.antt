@@ -1,5 +1,6 @@
 -- What a call holds for integers of given kinds, and the call that is made of it. Which call has which kinds is told in `Call.antt`.
-use Rattle.std.specs.Prelude.{Bool, true, false, ℕ, suc, ℤ, pos, negsuc, ◌^◌, Option, Some, None, unwrap_or, is_some, if◌then◌else◌, nat_lt, ◌==◌, List, [], ◌∷◌, slice_index_or}
+use Rattle.std.specs.Prelude.{Bool, true, false, ℕ, suc, ℤ, pos, negsuc, ◌^◌, ◌%◌, ◌-◌, Option, Some, None, unwrap_or, is_some, if◌then◌else◌, nat_lt, ◌==◌, List, [], ◌∷◌, slice_index_or}
+use Rattle.std.specs.Int.{cast_signed, w32}
 use Rattle.gl_words.specs.declared.shape.ArgKind.{ArgKind}
 use Rattle.gl_words.specs.declared.shape.ArgKind.TheVariants.{Enum, Unsigned, Int, Fixed, Bool as Truth, Pointer}
 use Rattle.gl_words.specs.declared.call.Call.{Call}
@@ -78,13 +79,18 @@ abbrev pub integers : (kinds : List ArgKind) → Values kinds → List ℤ
 integers [] values = []
 integers (kind ∷ kinds) values = integer_of kind (values.0) ∷ integers kinds (values.1)
 
--- the integer at a place as a signed number of 32 bits; 0 where it is none, or no integer stands there; own
-unfoldable pub signed_at : List ℤ → ℕ → ℤ
-signed_at args at = unwrap_or (signed_of (slice_index_or args at (pos 0))) (pos 0)
+-- the low 32 bits of an integer in two's complement; own
+abbrev pub low_bits : ℤ → ℕ
+low_bits (pos n) = n % 2 ^ 32
+low_bits (negsuc n) = 2 ^ 32 - suc (n % 2 ^ 32)
 
--- the integer at a place as a number without sign of 32 bits; 0 where it is none, or no integer stands there; own
+-- the low 32 bits of the integer at a place, as a number without sign; of 0 where no integer stands there; own
 unfoldable pub unsigned_at : List ℤ → ℕ → ℕ
-unsigned_at args at = unwrap_or (unsigned_of (slice_index_or args at (pos 0))) 0
+unsigned_at args at = low_bits (slice_index_or args at (pos 0))
+
+-- the low 32 bits of the integer at a place, as a signed number; of 0 where no integer stands there; own
+unfoldable pub signed_at : List ℤ → ℕ → ℤ
+signed_at args at = cast_signed w32 (low_bits (slice_index_or args at (pos 0)))
 
 -- the integer at a place as a truth value; false where it is none, or no integer stands there; own
 unfoldable pub truth_at : List ℤ → ℕ → Bool

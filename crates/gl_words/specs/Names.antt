@@ -1,6 +1,9 @@
 -- The names that a script may write for numbers: those of OpenGL ES 1.1.12, with its numbers. The choice of names is own.
-use Rattle.std.specs.Prelude.{ℕ, List, [], ◌∷◌, Option, codes}
-use Rattle.gl_words.specs.Lookup.{found_in}
+use Rattle.std.specs.Prelude.{◌≡◌, ℕ, Bool, true, false, List, [], ◌∷◌, Option, Some, None, length, codes, ◌==◌}
+use Rattle.std.specs.Borrow.{Bor}
+use Rattle.std.specs.List.{list_all}
+use Rattle.gl_words.specs.Lookup.{seen_names, found_in, of_length}
+use Rattle.gl_words.specs.declared.names.Name.{Name}
 
 -- each name with its number; tables 6.4 to 6.20 and the header, the choice own
 unfoldable pub names : List (List ℕ × ℕ)
@@ -160,3 +163,13 @@ names =
 -- the number beside a name; own
 abbrev pub number_named : List ℕ → Option ℕ
 number_named name = found_in names name
+
+-- whether a number is there, and is this one; own
+abbrev pub finds : Option ℕ → ℕ → Bool
+finds None number = false
+finds (Some other) number = other == number
+
+-- the names by their lengths: each stands with its number in the group of its length, and nothing else does; own
+pub record AreGroups (groups : List (Bor (List Name))) : Type 0 where
+  pub each : list_all (λ row. finds (found_in (seen_names (of_length groups (length row.0))) row.0) row.1) names ≡ true
+  pub only : list_all (λ group. list_all (λ row. finds (found_in names row.0) row.1) (seen_names group.now)) groups ≡ true

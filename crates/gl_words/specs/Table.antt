@@ -1,7 +1,9 @@
 -- The code's table of calls as contracts see it: rows at the places of their numbers, and places that are empty.
-use Rattle.std.specs.Prelude.{◌≡◌, Bool, true, false, ℕ, suc, List, [], ◌∷◌, map, Option, Some, None, if◌then◌else◌, ◌==◌}
-use Rattle.std.specs.Option.{option_map}
+use Rattle.std.specs.Prelude.{◌≡◌, Bool, true, false, ℕ, suc, List, [], ◌∷◌, map, length, Option, Some, None, if◌then◌else◌, ◌==◌}
+use Rattle.std.specs.Borrow.{Bor}
+use Rattle.std.specs.List.{list_all, list_any}
 use Rattle.gl_words.specs.Call.{name_of, id_of, kinds_of, is_answering, each_call}
+use Rattle.gl_words.specs.Lookup.{of_length}
 use Rattle.gl_words.specs.declared.call.Call.{Call}
 use Rattle.gl_words.specs.declared.shape.ArgKind.{ArgKind}
 use Rattle.gl_words.specs.declared.table.TableRow.{TableRow}
@@ -20,7 +22,7 @@ told call = record { id = id_of call; name = name_of call; kinds = kinds_of call
 
 -- what a row of the code tells; own
 abbrev pub told_by : TableRow → Told
-told_by row = record { id = row.shape.id; name = row.name.now; kinds = row.shape.kinds.now; answering = row.answering; call = row.call }
+told_by row = record { id = row.id; name = row.name.now; kinds = row.kinds.now; answering = row.answering; call = row.call }
 
 -- what stands at the places that aren't empty; own
 abbrev pub told_in : List (Option TableRow) → List Told
@@ -32,7 +34,7 @@ told_in (Some row ∷ rows) = told_by row ∷ told_in rows
 abbrev pub are_numbered : ℕ → List (Option TableRow) → Bool
 are_numbered at [] = true
 are_numbered at (None ∷ rows) = are_numbered (suc at) rows
-are_numbered at (Some row ∷ rows) = if row.shape.id == at then are_numbered (suc at) rows else false
+are_numbered at (Some row ∷ rows) = if row.id == at then are_numbered (suc at) rows else false
 
 -- the rows are those of the calls, each at the place of its number; own
 pub record IsTable (rows : List (Option TableRow)) : Type 0 where
@@ -41,13 +43,11 @@ pub record IsTable (rows : List (Option TableRow)) : Type 0 where
 
 -- a row is that of a call; own
 pub record IsRowOf (row : TableRow) (call : Call) : Type 0 where
-  pub same_id : row.shape.id ≡ id_of call
+  pub same_id : row.id ≡ id_of call
   pub same_name : row.name.now ≡ name_of call
-  pub same_kinds : row.shape.kinds.now ≡ kinds_of call
+  pub same_kinds : row.kinds.now ≡ kinds_of call
   pub same_answering : row.answering ≡ is_answering call
 
--- the names of the rows, each with number and kinds; own
-abbrev pub named_in : List (Option TableRow) → List (List ℕ × (ℕ × List ArgKind))
-named_in [] = []
-named_in (None ∷ rows) = named_in rows
-named_in (Some row ∷ rows) = (row.name.now, (row.shape.id, row.shape.kinds.now)) ∷ named_in rows
+-- the group of a length has the number of each call whose name has that length; own
+abbrev pub AreNumbers : List (Bor (List ℕ)) → Type 0
+AreNumbers groups = list_all (λ call. list_any (λ id. id == id_of call) (of_length groups (length (name_of call)))) each_call ≡ true

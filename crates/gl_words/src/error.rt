@@ -1,4 +1,4 @@
-//! The errors that a call may record. Which call records which is told by the driver, and not here.
+//! The errors that a call may record, with their numbers. Which call records which isn't told here.
 
 ghost use Rattle.std.specs.Prelude.{◌≡◌};
 ghost use Rattle.gl_words.specs.GlError.{code_of};

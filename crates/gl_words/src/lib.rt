@@ -6,18 +6,18 @@ mod call;
 mod debug;
 mod error;
 mod laws;
+mod lookup;
 mod making;
 mod names;
 mod shape;
 mod table;
-#[cfg(test)]
-mod tests;
 
 pub use arguments::{Arguments, arg_at, arguments_of};
 pub use call::Call;
 pub use error::GlError;
 pub use laws::call_law;
+pub use lookup::shape_of_name;
 pub use making::{call_from, call_in};
 pub use names::number_of_enum;
-pub use shape::{ArgKind, Shape, shape_of_name};
+pub use shape::{ArgKind, Shape};
 pub use table::{arg_count, arg_count_of, call_id, call_name, is_answering};

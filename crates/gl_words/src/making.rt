@@ -1,10 +1,12 @@
-//! Calls of numbers and integers. The integers stand in slots of eight bytes; they are judged before a call is made.
+//! Calls of numbers and integers. The integers stand by themselves or in slots of eight bytes; they are judged before a
+//! call is made, and not again when it is.
 
-ghost use Rattle.std.specs.Prelude.{◌≡◌, ◌≤◌, ◌++◌, ℕ, List, if◌then◌else◌, Some, None, [], map, length, take, drop, IfSome};
+ghost use Rattle.std.specs.Prelude.{◌≡◌, ◌++◌, ℕ, ℤ, List, Some, map, IfSome};
+ghost use Rattle.std.specs.Int.{cast_signed, w64};
 ghost use Rattle.gl_words.specs.Call.{id_of, kinds_of, arguments, again_of, IsInRange};
 ghost use Rattle.gl_words.specs.CallOf.{made_of, call_of};
-ghost use Rattle.gl_words.specs.Making.{unsigned_of, signed_of, truth_of, is_of_kind, fits, signed_at, unsigned_at};
-ghost use Rattle.gl_words.specs.Slots.{slot_of, numbers_in, call_begun};
+ghost use Rattle.gl_words.specs.Making.{unsigned_of, signed_of, truth_of, is_of_kind, fits, low_bits, signed_at, unsigned_at};
+ghost use Rattle.gl_words.specs.Slots.{slot_of, call_begun};
 ghost use Rattle.gl_words.specs.declared.call.Call.{Call};
 
 use crate::call::Call;
@@ -28,11 +30,11 @@ fn begun(id: u16, slots: &[u64]) -> Option<Call>
     let Some(row) = row_numbered(id) else {
         return None;
     };
-    let count = row.shape.kinds.len();
+    let count = row.kinds.len();
     if count > slots.len() {
         return None;
     }
-    made(row.call, row.shape.kinds, slots.split_at(count).0)
+    made(row.call, row.kinds, slots.split_at(count).0)
 }
 
 /// The call with this number and these arguments. None exactly where no call has the number, the
@@ -51,87 +53,90 @@ pub fn call_from(id: u16, args: &[i64]) -> Option<Call>
 fn found(id: u16, args: &[i64]) -> Option<Call>
     ensures { result ≡ call_of id args.now }
 {
-    let Some(row) = row_numbered(id) else {
-        return None;
-    };
-    if args.len() != row.shape.kinds.len() {
-        return None;
+    match row_numbered(id) {
+        Some(row) => made(row.call, row.kinds, args),
+        None => None,
     }
-    made(
-        row.call,
-        row.shape.kinds,
-        slots_from(args).split_at(args.len()).0,
-    )
 }
 
-/// Integers in slots, and zeros behind them.
-#[tactic(auto, unfolding(crate::specs::Slots::numbers_in))]
-fn slots_from(args: &[i64]) -> [u64; 9]
-    requires { length args.now ≤ 9 }
-    ensures numbers { numbers_in (take (length args.now) result) ≡ args.now }
-    ensures same_length { length result ≡ 9 }
-{
-    let mut slots = [0; 9];
-    for at in 0..args.len() {
-        slots[at] = args[at].cast_unsigned();
-    }
-    slots
+/// An integer of 64 bits, as it is or in a slot.
+pub(crate) trait Integer {
+    ghost integer: { Self → ℤ };
+
+    fn integer(&self) -> i64
+        ensures { result ≡ integer self.now };
 }
 
-/// The call of a call's row that has the arguments in slots, where there are as many as kinds and each is of its kind.
+impl Integer for i64 {
+    ghost integer = { λ z. z };
+
+    fn integer(&self) -> i64 {
+        *self
+    }
+}
+
+impl Integer for u64 {
+    ghost integer = { cast_signed w64 };
+
+    fn integer(&self) -> i64 {
+        self.cast_signed()
+    }
+}
+
+/// The call of a call's row that has these arguments, where there are as many as kinds and each is of its kind.
 #[tactic(auto, unfolding(crate::specs::CallOf::made_of))]
-fn made(call: Call, kinds: &[ArgKind], slots: &[u64]) -> Option<Call>
+pub(crate) fn made<I: Integer>(call: Call, kinds: &[ArgKind], args: &[I]) -> Option<Call>
     requires { kinds.now ≡ kinds_of call }
-    ensures { result ≡ made_of call (numbers_in slots.now) }
+    ensures { result ≡ made_of call (map I.integer args.now) }
 {
-    if fit(kinds, slots) {
-        Some(made_again(call, slots))
+    if fit(kinds, args) {
+        Some(made_again(call, args))
     } else {
         None
     }
 }
 
 macro_rules! value {
-    (Int $slots:ident $place:literal) => { signed($slots, $place) };
-    (Fixed $slots:ident $place:literal) => { signed($slots, $place) };
-    ($kind:ident $slots:ident $place:literal) => { unsigned($slots, $place) };
+    (Int $args:ident $place:literal) => { signed($args, $place) };
+    (Fixed $args:ident $place:literal) => { signed($args, $place) };
+    ($kind:ident $args:ident $place:literal) => { unsigned($args, $place) };
 }
 
 macro_rules! made_call {
-    ($slots:ident $name:ident [$($done:tt)*] {} $places:tt) => { Call::$name { $($done)* } };
-    ($slots:ident $name:ident [$($done:tt)*] { $field:ident: $kind:ident $(, $more:ident: $more_kind:ident)* } ($place:literal $($places:literal)*)) => {
-        made_call!($slots $name [$($done)* $field: value!($kind $slots $place),] { $($more: $more_kind),* } ($($places)*))
+    ($args:ident $name:ident [$($done:tt)*] {} $places:tt) => { Call::$name { $($done)* } };
+    ($args:ident $name:ident [$($done:tt)*] { $field:ident: $kind:ident $(, $more:ident: $more_kind:ident)* } ($place:literal $($places:literal)*)) => {
+        made_call!($args $name [$($done)* $field: value!($kind $args $place),] { $($more: $more_kind),* } ($($places)*))
     };
 }
 
 macro_rules! remade {
-    (($call:ident $slots:ident) $($part:ident $id:literal $($name:ident { $($field:ident: $kind:ident),* })?;)*) => {
+    (($call:ident $args:ident) $($part:ident $id:literal $($name:ident { $($field:ident: $kind:ident),* })?;)*) => {
         match $call {
-            $($(Call::$name { .. } => made_call!($slots $name [] { $($field: $kind),* } (0 1 2 3 4 5 6 7 8)),)?)*
+            $($(Call::$name { .. } => made_call!($args $name [] { $($field: $kind),* } (0 1 2 3 4 5 6 7 8)),)?)*
         }
     };
 }
 
-/// The call of a call's row that holds the integers in slots.
+/// The call of a call's row that holds these integers.
 #[tactic(auto, using(crate::proofs::Makings::made), unfolding(crate::specs::Call::again_of))]
-fn made_again(call: Call, slots: &[u64]) -> Call
-    ensures { result ≡ again_of call (numbers_in slots.now) }
+fn made_again<I: Integer>(call: Call, args: &[I]) -> Call
+    ensures { result ≡ again_of call (map I.integer args.now) }
 {
-    rows!(remade(call slots))
+    rows!(remade(call args))
 }
 
-/// Whether slots hold as many integers as there are kinds, each of its kind.
-#[tactic(auto, unfolding(crate::specs::Making::fits, crate::specs::Slots::numbers_in))]
-fn fit(kinds: &[ArgKind], slots: &[u64]) -> bool
-    ensures { result ≡ fits kinds.now (numbers_in slots.now) }
+/// Whether there are as many integers as kinds, each of its kind.
+#[tactic(auto, unfolding(crate::specs::Making::fits))]
+fn fit<I: Integer>(kinds: &[ArgKind], args: &[I]) -> bool
+    ensures { result ≡ fits kinds.now (map I.integer args.now) }
 {
     match kinds {
-        [] => slots.is_empty(),
-        [kind, kinds @ ..] => match slots {
+        [] => args.is_empty(),
+        [kind, kinds @ ..] => match args {
             [] => false,
-            [slot, slots @ ..] => {
-                if is_of(*kind, slot.cast_signed()) {
-                    fit(kinds, slots)
+            [arg, args @ ..] => {
+                if is_of(*kind, arg.integer()) {
+                    fit(kinds, args)
                 } else {
                     false
                 }
@@ -150,26 +155,29 @@ fn is_of(kind: ArgKind, arg: i64) -> bool
     }
 }
 
-/// The signed number in the slot at a place, counted from 0; 0 where there is none.
-#[tactic(auto, unfolding(crate::specs::Making::signed_at, crate::specs::Slots::numbers_in))]
-fn signed(slots: &[u64], at: usize) -> i32
-    ensures { result ≡ signed_at (numbers_in slots.now) at }
+/// The integer at a place, counted from 0, as a signed number of 32 bits.
+#[tactic(auto, unfolding(crate::specs::Making::signed_at, crate::specs::Making::unsigned_at))]
+fn signed<I: Integer>(args: &[I], at: usize) -> i32
+    ensures { result ≡ signed_at (map I.integer args.now) at }
 {
-    match slots.get(at) {
-        Some(slot) => signed_from(slot.cast_signed()).unwrap_or(0),
+    unsigned(args, at).cast_signed()
+}
+
+/// The integer at a place, counted from 0, as a number without sign of 32 bits.
+#[tactic(auto, unfolding(crate::specs::Making::unsigned_at))]
+fn unsigned<I: Integer>(args: &[I], at: usize) -> u32
+    ensures { result ≡ unsigned_at (map I.integer args.now) at }
+{
+    match args.get(at) {
+        Some(arg) => low_half(arg.integer()),
         None => 0,
     }
 }
 
-/// The number without sign in the slot at a place, counted from 0; 0 where there is none.
-#[tactic(auto, unfolding(crate::specs::Making::unsigned_at, crate::specs::Slots::numbers_in))]
-fn unsigned(slots: &[u64], at: usize) -> u32
-    ensures { result ≡ unsigned_at (numbers_in slots.now) at }
+fn low_half(value: i64) -> u32
+    ensures { result ≡ low_bits value }
 {
-    match slots.get(at) {
-        Some(slot) => unsigned_from(slot.cast_signed()).unwrap_or(0),
-        None => 0,
-    }
+    (value.cast_unsigned() % 0x1_0000_0000) as u32
 }
 
 fn unsigned_from(value: i64) -> Option<u32>

@@ -1,14 +1,12 @@
-//! The shapes of calls: number and kinds of arguments, by name. What a call is, is told in `call.rt`.
+//! The shapes of calls: number and kinds of arguments. What a call is, is told in `call.rt`, and which name has
+//! which shape in `lookup.rt`.
 
-ghost use Rattle.std.specs.Prelude.{◌≡◌, ℕ, IfSome, IsSomeAnd, Some};
-ghost use Rattle.std.specs.Option.{option_map};
-ghost use Rattle.gl_words.specs.Call.{name_of};
-ghost use Rattle.gl_words.specs.Lookup.{found_in};
-ghost use Rattle.gl_words.specs.Shape.{IsShapeOf, IsNamedShape, shape_named, seen_shape};
-ghost use Rattle.gl_words.specs.Table.{named_in};
-ghost use Rattle.gl_words.specs.declared.call.Call.{Call};
+ghost use Rattle.std.specs.Prelude.{◌≡◌, Some};
+ghost use Rattle.gl_words.specs.Call.{kinds_of};
+ghost use Rattle.gl_words.specs.CallOf.{call_numbered};
 
-use crate::table::{TableRow, table};
+use crate::call::Call;
+use crate::making::made;
 
 /// The kind of an argument (OpenGL ES 1.1.12, section 2.3; the ranges are own).
 #[derive(Clone, Copy)]
@@ -27,33 +25,32 @@ pub enum ArgKind {
     Pointer,
 }
 
-/// A row of the table of calls: the number (own), and the kind of each argument in order.
+/// A row of the table of calls: the number (own), the kind of each argument in order, and the row's call whose
+/// arguments are 0. It is found by a name, and calls are made of it without a second search.
 #[derive(Clone, Copy)]
 pub struct Shape {
     pub id: u16,
     pub kinds: &'static [ArgKind],
+    pub(crate) zero: &'static Call,
+    ghost numbered: { call_numbered id ≡ Some zero.now },
+    ghost same_kinds: { kinds.now ≡ kinds_of zero.now },
 }
 
-/// The shape of the call with this name. None exactly where no call has it.
-pub fn shape_of_name(name: &str) -> Option<Shape>
-    ensures gives { option_map seen_shape result ≡ shape_named name.now }
-    ensures found { IfSome result (λ shape. IsNamedShape name.now shape) }
-    ensures only { (call : Call) → name_of call ≡ name.now
-        → IsSomeAnd result (λ shape. IsShapeOf shape call) }
-{
-    shape_in(table(), name)
-}
+impl Shape {
+    ghost use Rattle.std.specs.Prelude.{IfSome, ℤ, List};
+    ghost use Rattle.gl_words.specs.Call.{id_of, arguments, IsInRange};
+    ghost use Rattle.gl_words.specs.CallOf.{call_of};
+    ghost use Rattle.gl_words.specs.declared.call.Call.{Call};
 
-/// The shape of the first row with this name.
-fn shape_in(rows: &[Option<TableRow>], name: &str) -> Option<Shape>
-    ensures { option_map seen_shape result ≡ found_in (named_in rows.now) name.now }
-{
-    for row in rows {
-        if let Some(row) = row {
-            if row.name == name {
-                return Some(row.shape);
-            }
-        }
+    /// The call of this shape with these arguments. None exactly where their number differs, or one is outside the
+    /// range of its kind.
+    pub fn call(&self, args: &[i64]) -> Option<Call>
+        ensures gives { result ≡ call_of self.now.id args.now }
+        ensures found { IfSome result
+            (λ call. (id_of call ≡ self.now.id) × (arguments call ≡ args.now) × IsInRange call) }
+        ensures only { (call : Call) → IsInRange call → id_of call ≡ self.now.id
+            → arguments call ≡ args.now → result ≡ Some call }
+    {
+        made(*self.zero, self.kinds, args)
     }
-    None
 }

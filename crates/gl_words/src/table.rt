@@ -8,7 +8,7 @@ ghost use Rattle.gl_words.specs.Table.{told, told_by, IsTable, IsRowOf};
 ghost use Rattle.gl_words.specs.declared.call.Call.{Call};
 
 use crate::call::Call;
-use crate::shape::{ArgKind, Shape};
+use crate::shape::ArgKind;
 
 /// Hands each row to another macro: the part of the table in which it stands (`asks` for calls that are answered,
 /// `none` for a number that no call has yet), the number, the name, and each argument with its kind.
@@ -88,8 +88,9 @@ pub(crate) use rows;
 /// A row of the table of calls: the name is that of OpenGL ES 1.1.12 without the prefix `gl`, the call one whose
 /// arguments are 0.
 pub(crate) struct TableRow {
+    pub(crate) id: u16,
     pub(crate) name: &'static str,
-    pub(crate) shape: Shape,
+    pub(crate) kinds: &'static [ArgKind],
     pub(crate) answering: bool,
     pub(crate) call: Call,
 }
@@ -108,8 +109,9 @@ macro_rules! row {
     (none $id:literal) => { None };
     ($part:ident $id:literal $name:ident { $($field:ident: $kind:ident),* }) => {
         Some(TableRow {
+            id: $id,
             name: stringify!($name),
-            shape: Shape { id: $id, kinds: &[$(ArgKind::$kind),*] },
+            kinds: &[$(ArgKind::$kind),*],
             answering: is_asking!($part),
             call: Call::$name { $($field: zero!($kind)),* },
         })
@@ -202,7 +204,7 @@ pub fn arg_count(call: &Call) -> usize
     ensures count { result ≡ length (arguments call.now) }
     ensures few { result ≤ 9 }
 {
-    row_of(call).shape.kinds.len()
+    row_of(call).kinds.len()
 }
 
 /// Whether a call is answered (sections 2.5, 4.3.1 and 6.1). Whoever asks knows that its arguments are in range.
@@ -228,7 +230,7 @@ fn count_from(id: u16) -> Option<usize>
     ensures { result ≡ argument_count id }
 {
     match row_numbered(id) {
-        Some(row) => Some(row.shape.kinds.len()),
+        Some(row) => Some(row.kinds.len()),
         None => None,
     }
 }

@@ -3,4 +3,4 @@ use Rattle.std.proofs.Common.{length}
 use Rattle.gl_words.proofs.making.+fit.Given as goal
 
 abbrev pub decreases-fit : goal.decreases-fit
-decreases-fit l = length l.kinds.now
+decreases-fit g l = length l.kinds.now

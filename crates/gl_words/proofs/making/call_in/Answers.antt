@@ -1,4 +1,4 @@
-use Rattle.std.proofs.Common.{◌≡◌, ℕ, List, sym, ap, ◌∙◌, subst, Some, None, Option, IfSome, get_or, Fits, w64, map, ◌++◌}
+use Rattle.std.proofs.Common.{◌≡◌, ℕ, List, sym, ap, ◌∙◌, Some, None, Option, IfSome, get_or, Fits, w64, map, ◌++◌}
 use Rattle.gl_words.specs.Call.{id_of, arguments, IsInRange}
 use Rattle.gl_words.specs.Slots.{slot_of, call_begun}
 use Rattle.gl_words.proofs.Slotted.{Begins, call_begun-is, call_begun-again}
