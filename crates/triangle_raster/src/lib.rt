@@ -10,8 +10,6 @@ mod row;
 mod setup;
 mod shape;
 mod sums;
-#[cfg(test)]
-mod tests;
 mod vertex;
 
 pub use fragment::Fragment;
