@@ -1,4 +1,5 @@
 pub mod Bounds
+pub mod Splits
 pub mod Matrices
 pub mod Angles
 pub mod Axes

@@ -1,7 +1,8 @@
 //! Sums, products and quotients that are proved to fit, rounded down and clamped to 32 bits.
 //! No division here rounds towards zero.
 
-ghost use Rattle.std.specs.Prelude.{◌≡◌, ◌≢◌, ◌-◌, ◌^◌, ◌+ℤ◌, ◌-ℤ◌, ◌*ℤ◌, pos};
+ghost use Rattle.std.specs.Prelude.{◌≡◌, ◌≢◌, ◌-◌, ◌^◌, ◌<◌, ◌+ℤ◌, ◌-ℤ◌, ◌*ℤ◌, pos};
+ghost use Rattle.std.specs.Int.{int_div_euclid, int_rem_euclid};
 ghost use Rattle.fixed_transform.specs.Fixed.{IsWithin, clamp_i32, floor, fx, quotient_of};
 
 /// The number of 32 bits that is nearest.
@@ -11,32 +12,55 @@ pub fn clamped(number: i64) -> i32
     number.clamp(i32::MIN as i64, i32::MAX as i64) as i32
 }
 
-/// A sum of four products of 16.16 fixed numbers as a 16.16 fixed number.
-pub fn fixed(sum: i128) -> i32
-    requires { IsWithin (2 ^ 64) sum }
-    ensures { result ≡ fx sum }
-{
-    clamped(sum.div_euclid(65536) as i64)
-}
-
-/// The product of two numbers of 32 bits.
-pub fn product(a: i32, b: i32) -> i128
-    ensures value { result ≡ a *ℤ b }
-    ensures near { IsWithin (2 ^ 62) result }
-{
-    a as i128 * b as i128
-}
-
-/// The sum of four products.
-pub fn total(a: i128, b: i128, c: i128, d: i128) -> i128
+/// The sum of four products of 16.16 fixed numbers as a 16.16 fixed number. Each product is split, so that the sums fit
+/// in 64 bits.
+pub fn fixed(a: i64, b: i64, c: i64, d: i64) -> i32
     requires a { IsWithin (2 ^ 62) a }
     requires b { IsWithin (2 ^ 62) b }
     requires c { IsWithin (2 ^ 62) c }
     requires d { IsWithin (2 ^ 62) d }
+    ensures { result ≡ fx (a +ℤ b +ℤ c +ℤ d) }
+{
+    let wholes = total(whole(a), whole(b), whole(c), whole(d));
+    let rests = rest(a) + rest(b) + rest(c) + rest(d);
+    clamped(wholes + i64::from(rests / 65536))
+}
+
+/// The sum of four numbers.
+fn total(a: i64, b: i64, c: i64, d: i64) -> i64
+    requires a { IsWithin (2 ^ 46) a }
+    requires b { IsWithin (2 ^ 46) b }
+    requires c { IsWithin (2 ^ 46) c }
+    requires d { IsWithin (2 ^ 46) d }
     ensures value { result ≡ a +ℤ b +ℤ c +ℤ d }
-    ensures near { IsWithin (2 ^ 64) result }
+    ensures near { IsWithin (2 ^ 48) result }
 {
     a + b + c + d
+}
+
+/// A number over 65536, rounded down.
+fn whole(number: i64) -> i64
+    requires near { IsWithin (2 ^ 62) number }
+    ensures value { result ≡ int_div_euclid number (pos 65536) }
+    ensures near { IsWithin (2 ^ 46) result }
+{
+    number.div_euclid(65536)
+}
+
+/// What is left of a number over 65536.
+fn rest(number: i64) -> u32
+    ensures value { pos result ≡ int_rem_euclid number (pos 65536) }
+    ensures few { result < 65536 }
+{
+    number.rem_euclid(65536) as u32
+}
+
+/// The product of two numbers of 32 bits.
+pub fn product(a: i32, b: i32) -> i64
+    ensures value { result ≡ a *ℤ b }
+    ensures near { IsWithin (2 ^ 62) result }
+{
+    a as i64 * b as i64
 }
 
 /// The sum of two numbers of 32 bits.

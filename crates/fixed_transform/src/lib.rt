@@ -4,15 +4,11 @@
 mod angle;
 mod arithmetic;
 mod axis;
-#[cfg(test)]
-mod call_tests;
 pub mod laws;
 mod matrix;
 mod placing;
 mod projection;
 mod stack;
-#[cfg(test)]
-mod tests;
 mod turning;
 
 pub use matrix::Matrix;

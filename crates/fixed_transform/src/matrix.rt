@@ -3,7 +3,7 @@
 ghost use Rattle.std.specs.Prelude.{◌≡◌, ◌<◌};
 ghost use Rattle.fixed_transform.specs.Matrix.{column_of, entry, identity, image, image_part, of_values, product, value_at};
 
-use crate::arithmetic::{fixed, product, total};
+use crate::arithmetic::{fixed, product};
 
 /// A matrix of 16 numbers of 16.16 fixed, by columns. Section 2.10.2 of OpenGL ES 1.1.12.
 #[derive(Clone, Copy, Debug, PartialEq, Eq)]
@@ -72,12 +72,12 @@ impl Matrix {
         requires { row < 4 }
         ensures { result ≡ image_part self.now v.now row }
     {
-        fixed(total(
+        fixed(
             product(self.entry(row, 0), v[0]),
             product(self.entry(row, 1), v[1]),
             product(self.entry(row, 2), v[2]),
             product(self.entry(row, 3), v[3]),
-        ))
+        )
     }
 
     /// This matrix times a column of four numbers (16.16 fixed): of each part the exact sum of its four products,
