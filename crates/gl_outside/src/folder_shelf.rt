@@ -57,13 +57,13 @@ impl<R: Files + Drop> Shelf for FolderShelf<R> {
             (Adds {X = List ℕ × List ℕ} untold untold ((name.now, bytes.now) ∷ [])) }
         ensures kept { OnOk result (self.new ≡ self.old) }
         ensures failed { IsErrOf result OutError.Failed → Rose self.old self.new }
+        ensures no_memory { IsErrOf result OutError.NoMemory → self.new ≡ self.old }
         ensures err { OnErr result (untold {X = List ℕ × List ℕ} ≡ untold) }
         ensures count { self.old ≤ self.new }
         ensures range { self.new < 2 ^ 64 }
 
         // What this form does beyond what a shelf owes: what failed is counted once.
         ensures counted { IsErrOf result OutError.Failed → self.new ≡ one_more self.old }
-        ensures uncounted { IsErrOf result OutError.NoMemory → self.new ≡ self.old }
     {
         let folder = self.folder.as_str();
         let path = format!(in self.alloc; "{folder}/{name}")?;

@@ -17,8 +17,6 @@ mod stdout_sink;
 mod sure_shelf;
 mod sure_sink;
 mod sure_source;
-#[cfg(test)]
-mod tests;
 mod writing;
 
 pub use error::{Failed, OutError, ReadError};

@@ -88,6 +88,8 @@ impl Shelf for MemoryShelf {
         ensures kept { OnOk result (self.new.plan.faults ≡ self.old.plan.faults) }
         ensures failed { IsErrOf result OutError.Failed
             → Rose self.old.plan.faults self.new.plan.faults }
+        ensures no_memory { IsErrOf result OutError.NoMemory
+            → self.new.plan.faults ≡ self.old.plan.faults }
         ensures err { OnErr result (self.new.list ≡ self.old.list) }
         ensures count { self.old.plan.faults ≤ self.new.plan.faults }
         ensures range { self.new.plan.faults < 2 ^ 64 }

@@ -74,6 +74,8 @@ impl Sink for MemorySink {
         ensures kept { OnOk result (self.new.plan.faults ≡ self.old.plan.faults) }
         ensures failed { IsErrOf result OutError.Failed
             → Rose self.old.plan.faults self.new.plan.faults }
+        ensures no_memory { IsErrOf result OutError.NoMemory
+            → self.new.plan.faults ≡ self.old.plan.faults }
         ensures err { OnErr result (self.new.held ≡ self.old.held) }
         ensures count { self.old.plan.faults ≤ self.new.plan.faults }
         ensures range { self.new.plan.faults < 2 ^ 64 }

@@ -26,6 +26,8 @@ pub fn read_up_to<S: Source>(
     ensures kept { OnOk result (S.faults source.new ≡ S.faults source.old) }
     ensures failed { IsErrOf result ReadError.Failed
         → Rose (S.faults source.old) (S.faults source.new) }
+    ensures no_memory { IsErrOf result ReadError.NoMemory
+        → S.faults source.new ≡ S.faults source.old }
     ensures err { OnErr result (TakesAtMost limit (S.left source.old) (S.left source.new)) }
     ensures count { S.faults source.old ≤ S.faults source.new }
 {

@@ -19,6 +19,7 @@ pub trait Shelf: Drop {
             (Adds (list self.old) (list self.new) ((name.now, bytes.now) ∷ [])) }
         ensures kept { OnOk result (faults self.new ≡ faults self.old) }
         ensures failed { IsErrOf result OutError.Failed → Rose (faults self.old) (faults self.new) }
+        ensures no_memory { IsErrOf result OutError.NoMemory → faults self.new ≡ faults self.old }
         ensures err { OnErr result (list self.new ≡ list self.old) }
         ensures count { faults self.old ≤ faults self.new }
         ensures range { faults self.new < 2 ^ 64 };

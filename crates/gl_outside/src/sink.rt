@@ -21,6 +21,7 @@ pub trait Sink: Drop {
         ensures some { IfOk result (λ n. 0 < length bytes.now → 0 < n) }
         ensures kept { OnOk result (faults self.new ≡ faults self.old) }
         ensures failed { IsErrOf result OutError.Failed → Rose (faults self.old) (faults self.new) }
+        ensures no_memory { IsErrOf result OutError.NoMemory → faults self.new ≡ faults self.old }
         ensures err { OnErr result (held self.new ≡ held self.old) }
         ensures count { faults self.old ≤ faults self.new }
         ensures range { faults self.new < 2 ^ 64 };

@@ -46,6 +46,7 @@ impl<R: Print + Drop> Sink for StdoutSink<R> {
         ensures some { IfOk result (λ n. 0 < length bytes.now → 0 < n) }
         ensures kept { OnOk result (self.new ≡ self.old) }
         ensures failed { IsErrOf result OutError.Failed → Rose self.old self.new }
+        ensures no_memory { ¬ IsErrOf result OutError.NoMemory }
         ensures err { OnErr result (untold {X = ℕ} ≡ untold) }
         ensures count { self.old ≤ self.new }
         ensures range { self.new < 2 ^ 64 }

@@ -11,6 +11,7 @@ pub fn write_all<K: Sink>(sink: &mut K, bytes: &[u8]) -> Result<(), OutError>
     ensures ok { OnOk result (Adds (K.held sink.old) (K.held sink.new) bytes.now) }
     ensures kept { OnOk result (K.faults sink.new ≡ K.faults sink.old) }
     ensures failed { IsErrOf result OutError.Failed → Rose (K.faults sink.old) (K.faults sink.new) }
+    ensures no_memory { IsErrOf result OutError.NoMemory → K.faults sink.new ≡ K.faults sink.old }
     ensures err { OnErr result (AddsPart (K.held sink.old) (K.held sink.new) bytes.now) }
     ensures count { K.faults sink.old ≤ K.faults sink.new }
 {
