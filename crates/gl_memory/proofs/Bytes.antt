@@ -1,8 +1,8 @@
 -- The byte that a segment and a memory have at a place.
-use Rattle.std.proofs.Common.{◌≡◌, ℕ, inl, inr, ◌+◌, ◌-◌, ◌<◌, ◌≤◌, List, [], ◌∷◌, length, slice_index, get_or, drop, Option, Some, None, refl, sym, ap, ◌∙◌, arith}
+use Rattle.std.proofs.Common.{◌≡◌, ℕ, inl, inr, ◌+◌, ◌-◌, ◌<◌, ◌≤◌, List, [], ◌∷◌, length, slice_index, Option, Some, None, refl, sym, ap, ◌∙◌, arith}
 use Rattle.std.specs.Prelude.{nat_le, slice_get, unwrap_or}
 use Rattle.std.proofs.lemmas.Bool.{cond-true, cond-false, le-leb, lt-leb, cases_lt}
-use Rattle.std.proofs.lemmas.List.{get_or_past, at_drop_more}
+use Rattle.std.proofs.lemmas.List.{get_or_past}
 use Rattle.std.proofs.lemmas.Option.{slice_get-get_or, slice_get_past}
 use Rattle.std.specs.List.{All}
 use Rattle.std.proofs.lemmas.List.Elements.{All-nil, All-cons, All-from_get_or}
@@ -55,12 +55,6 @@ byte_at-memory_of bytes place =
       | inl h ↦ byte_at-first whole [] place (slice_index bytes (place - 0)) (byte_in-inside whole place (omega arith) (omega arith)) ∙ ap (slice_index bytes) (omega arith)
       | inr h ↦ byte_at-others whole [] place (byte_in-behind whole place (omega arith)) ∙ byte_at-nil place ∙ sym (get_or_past bytes place 0 h)
     ]
-
--- one segment of a list and those behind it
-pub byte_at-drop : (list : List Segment) (index : ℕ) (item : Segment) (place : ℕ) → index < length list → item ≡ get_or list index item → byte_at (drop index list) place ≡ byte_at (item ∷ drop (index + 1) list) place
-byte_at-drop list index item place within is =
-    at_drop_more (λ (segments : List Segment). byte_at segments place) list index item within
-    ∙ ap (λ (first : Segment). byte_at (first ∷ drop (index + 1) list) place) (sym is)
 
 -- client memory is made of bytes where each of its places has one
 pub AreBytes-memory_of : (bytes : List ℕ) → ((place : ℕ) → slice_index bytes place < 256) → AreBytes (memory_of bytes)

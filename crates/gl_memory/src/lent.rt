@@ -1,18 +1,19 @@
-//! One segment whose bytes lie in lent slots.
+//! One segment whose bytes lie in lent slots. It copies no byte and takes no memory.
 
-ghost use Rattle.std.specs.Prelude.{◌≡◌, ◌*◌, ◌<◌, [], length, slice_get, Some};
+ghost use Rattle.std.specs.Prelude.{◌≡◌, ◌*◌, ◌<◌, length, slice_get, Some};
 ghost use Rattle.gl_memory.specs.Segment.{byte_in};
-ghost use Rattle.gl_memory.specs.Slots.{bytes_of_slots};
+ghost use Rattle.gl_memory.specs.Slots.{bytes_of_slots, lent, LieIn};
 
 use std::marker::Model;
 
-/// The `len` bytes of `slots` from byte `skip` on, at the place `start`; own. Contracts see the segment.
+/// Bytes of slots, eight to a slot, the first in the lowest eight bits, and the place in client memory that they stand
+/// for; own. Contracts see the segment.
 #[derive(Drop)]
-pub(crate) struct Lent<'a> {
-    pub(crate) start: u64,
-    pub(crate) len: u64,
-    pub(crate) slots: &'a [u64],
-    pub(crate) skip: u64,
+pub struct Lent<'a> {
+    start: u64,
+    len: u64,
+    slots: &'a [u64],
+    skip: u64,
 }
 
 impl<'a> Model for Lent<'a> {
@@ -26,21 +27,22 @@ impl<'a> Model for Lent<'a> {
     ghost invariant = { λ l. LieIn l.slots.now l.skip l.len };
 }
 
-impl Default for Lent<'_> {
-    /// A segment without bytes, for the unused places of a list.
-    fn default() -> Self {
+impl<'a> Lent<'a> {
+    /// The segment at the place `start` whose bytes are the `len` bytes of `slots` from byte `skip` on.
+    pub fn new(start: u64, len: u64, slots: &'a [u64], skip: u64) -> Lent<'a>
+        requires bytes { LieIn slots.now skip len }
+        ensures { result ≡ record { start = start; bytes = lent slots.now skip len } }
+    {
         Lent {
-            start: 0,
-            len: 0,
-            slots: &[],
-            skip: 0,
+            start,
+            len,
+            slots,
+            skip,
         }
     }
-}
 
-impl Lent<'_> {
     /// The byte at a place, where the segment holds it.
-    pub(crate) fn byte(&self, at: u64) -> Option<u8>
+    pub fn byte(&self, at: u64) -> Option<u8>
         ensures { result ≡ byte_in self.now at }
     {
         if at < self.start || at - self.start >= self.len {
