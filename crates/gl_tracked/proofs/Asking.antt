@@ -1,8 +1,9 @@
--- A call that asks for a number of tracked state has no error: each name of a row is one that its get takes.
-use Rattle.std.proofs.Common.{◌≡◌, ℕ, ℤ, Bool, true, false, cond, eqb, List, [], ◌∷◌, map, Option, Some, None, ◌⊎◌, inl, inr, refl, sym, ap}
+-- A call that asks for a number of tracked state has no error: each name of a row is one that its get takes. The names of IsEnabled's rows are those of arrays.
+use Rattle.std.proofs.Common.{◌≡◌, ℕ, ℤ, arith, Bool, true, false, ◌||◌, cond, eqb, List, [], ◌∷◌, map, Option, Some, None, ◌⊎◌, inl, inr, refl, sym, ap}
 use Rattle.std.specs.List.{list_any}
 use Rattle.std.specs.Option.{is_some}
 use Rattle.std.proofs.lemmas.Bool.{cond-true, eqb-true, eq-eqb, or_left, or_right}
+use Rattle.std.proofs.lemmas.Bool.Decides.{nat_tests}
 use Rattle.std.proofs.lemmas.Option.{none-some}
 use Rattle.gl_words.specs.declared.call.Call.{Call}
 use Rattle.gl_words.specs.declared.call.Call.TheVariants.{GetIntegerv, GetPointerv, IsEnabled}
@@ -27,7 +28,31 @@ number_beside-named ((known, value) ∷ rows) name number h = elim (this_or_othe
   | inr others ↦ or_right _ _ (number_beside-named rows name number others)
 ]
 
-enabled_is_array_name : (tracked : Tracked) (name : ℕ) (number : ℤ) → enabled_asked tracked name ≡ Some number → is_among arrays name ≡ true
+neither : (is_this : Bool) (value : ℤ) (others : Option ℤ) → cond is_this (Some value) others ≡ None → (is_this ≡ false) × (others ≡ None)
+neither true value others h = absurd (cc)
+neither false value others h = (refl, h)
+
+same_test : (a b : ℕ) → eqb a b ≡ false → eqb b a ≡ false
+same_test a b h = grind (arith, nat_tests)
+
+-- a name with no number beside it is none of the names of the rows
+number_beside-unnamed : (rows : List (ℕ × ℤ)) (name : ℕ) → number_beside rows name ≡ None → list_any (λ known. eqb known name) (map (λ (row : ℕ × ℤ). row.0) rows) ≡ false
+number_beside-unnamed [] name h = refl
+number_beside-unnamed ((known, value) ∷ rows) name h =
+    let no = neither (eqb name known) value (number_beside rows name) h in
+    rw (same_test name known (no.0), number_beside-unnamed rows name (no.1)) refl
+
+-- where the second isn't so, both together are as the first
+pub or_neither : (a b : Bool) → b ≡ false → (a || b) ≡ a
+or_neither true b h = refl
+or_neither false b h = h
+
+-- a name for which IsEnabled gives no number of tracked state is that of no array
+pub enabled_is_no_array_name : (tracked : Tracked) (name : ℕ) → enabled_asked tracked name ≡ None → is_among arrays name ≡ false
+unfolding enabled_asked enabled_rows is_among
+enabled_is_no_array_name tracked name h = number_beside-unnamed (enabled_rows tracked) name h
+
+pub enabled_is_array_name : (tracked : Tracked) (name : ℕ) (number : ℤ) → enabled_asked tracked name ≡ Some number → is_among arrays name ≡ true
 unfolding enabled_asked enabled_rows is_among
 enabled_is_array_name tracked name number h = number_beside-named (enabled_rows tracked) name number h
 

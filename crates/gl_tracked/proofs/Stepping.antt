@@ -89,6 +89,27 @@ unfolding tracked_after
 tracked_after-others tracked call memory h =
     sym (ap (unless_fault (fault_of tracked call) tracked) (set_by-others tracked call memory h) ∙ unless_fault-same (fault_of tracked call) tracked)
 
+-- no call that is answered sets tracked state
+answering-sets_nothing : (call : Call) → is_answering call ≡ true → may_set call ≡ false
+unfolding is_answering
+answering-sets_nothing (ActiveTexture texture) h = absurd (cc)
+answering-sets_nothing (ClientActiveTexture texture) h = absurd (cc)
+answering-sets_nothing (ColorPointer size kind stride pointer) h = absurd (cc)
+answering-sets_nothing (DisableClientState array) h = absurd (cc)
+answering-sets_nothing (EnableClientState array) h = absurd (cc)
+answering-sets_nothing (MatrixMode mode) h = absurd (cc)
+answering-sets_nothing (NormalPointer kind stride pointer) h = absurd (cc)
+answering-sets_nothing (PixelStorei pname param) h = absurd (cc)
+answering-sets_nothing PopMatrix h = absurd (cc)
+answering-sets_nothing PushMatrix h = absurd (cc)
+answering-sets_nothing (TexCoordPointer size kind stride pointer) h = absurd (cc)
+answering-sets_nothing (VertexPointer size kind stride pointer) h = absurd (cc)
+answering-sets_nothing _ h = refl
+
+-- a call that is answered leaves tracked state
+pub tracked_after-answering : (tracked : Tracked) (call : Call) (memory : List Segment) → is_answering call ≡ true → tracked ≡ tracked_after tracked call memory
+tracked_after-answering tracked call memory h = tracked_after-others tracked call memory (answering-sets_nothing call h)
+
 -- a call with an error leaves tracked state; section 2.5
 pub tracked_after-fault : (tracked : Tracked) (call : Call) (memory : List Segment) (error : GlError) → fault_of tracked call ≡ Some error → tracked_after tracked call memory ≡ tracked
 unfolding tracked_after

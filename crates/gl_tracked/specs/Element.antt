@@ -31,6 +31,6 @@ step_over (negsuc below) bytes = bytes
 unfoldable pub element_at : ArrayState → ℕ → Piece
 element_at array place = record { start = array.pointer + place * step_over array.stride (element_bytes array); len = element_bytes array }
 
--- the arrays in the order in which a draw reads them: vertices, normals of three numbers, colours, texture coordinates of unit 0 and of unit 1; section 2.8
+-- the arrays as a draw reads them, in its order: vertices, normals of three numbers whatever size is kept of them, colours, texture coordinates of unit 0 and of unit 1; section 2.8
 unfoldable pub arrays_in_order : Tracked → List ArrayState
 arrays_in_order tracked = tracked.vertex ∷ (record tracked.normal { size = pos 3 }) ∷ tracked.colour ∷ tracked.texture

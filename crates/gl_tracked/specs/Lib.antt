@@ -6,6 +6,7 @@ pub mod Fault
 pub mod Reads
 pub mod Element
 pub mod Step
+pub mod Finding
 pub use Rattle.gl_words.specs.Call
 pub use Rattle.gl_memory.specs.Segment
 pub use Rattle.gl_memory.specs.Piece

@@ -1,73 +1,112 @@
 //! The first error of a call. A test of its arguments is a function, named as the definition.
 
-ghost use Rattle.std.specs.Prelude.{◌≡◌, ◌==◌, pos, true, if◌then◌else◌, ◌∷◌, [], Some, None};
-ghost use Rattle.gl_words.specs.Call.{is_answering};
+ghost use Rattle.std.specs.Prelude.{◌≡◌, ◌==◌, ◌||◌, pos, true, if◌then◌else◌, ◌∷◌, [], Some, None, is_some};
 ghost use Rattle.gl_tracked.specs.declared.tracked.Tracked.{Tracked};
 ghost use Rattle.gl_tracked.specs.Arrays.{gives_pointer};
 ghost use Rattle.gl_tracked.specs.Fault.{differ, fault_of, first_failed, has_sides, is_among, is_box, is_extent, is_frustum, is_known_mask, is_readable, pointer_fault, size_is_among};
-ghost use Rattle.gl_tracked.specs.Gets.{fixed_names, other_integers};
+ghost use Rattle.gl_tracked.specs.Gets.{enabled_asked, fixed_names, integer_asked, other_integers, pointer_asked};
+ghost use Rattle.gl_tracked.specs.Finding.{fault_found, number_found};
 ghost use Rattle.gl_tracked.specs.Stack.{is_matrix_mode};
+ghost use Rattle.gl_tracked.specs.Step.{number_asked};
 ghost use Rattle.gl_tracked.specs.Tracked.{alignments, alignment_names, array_sizes, arrays, capabilities, colour_types, units, vertex_types};
 
+use crate::finding::Finding;
 use crate::tracked::Tracked;
 use gl_words::{Call, GlError};
 
 impl Tracked {
     /// The first error of a call, as it and the tracked state show it; the sections are those of the calls.
-    #[tactic(auto, unfolding(crate::specs::Fault::fault_of, gl_words::specs::Call::is_answering))]
     pub fn fault(&self, call: &Call) -> Option<GlError>
         ensures { result ≡ fault_of self.now call.now }
     {
-        match call {
-            Call::ActiveTexture { texture } => enum_unless(is_unit(*texture)),
-            Call::Clear { mask } => value_unless(is_known_mask(*mask)),
-            Call::ClientActiveTexture { texture } => enum_unless(is_unit(*texture)),
-            Call::ColorPointer { .. }
-            | Call::NormalPointer { .. }
-            | Call::TexCoordPointer { .. }
-            | Call::VertexPointer { .. } => array_fault(call),
-            Call::DisableClientState { array } => enum_unless(is_array_name(*array)),
-            Call::EnableClientState { array } => enum_unless(is_array_name(*array)),
-            Call::Frustumx { .. } | Call::Orthox { .. } => sides_fault(call),
-            Call::GetFixedv { .. }
-            | Call::GetIntegerv { .. }
-            | Call::GetPointerv { .. }
-            | Call::IsEnabled { .. }
-            | Call::ReadPixels { .. } => self.get_fault(call),
-            Call::MatrixMode { mode } => enum_unless(is_matrix_mode(*mode)),
-            Call::PixelStorei { pname, param } => alignment_fault(*pname, *param),
-            Call::PopMatrix => error_unless(self.depth() > 1, GlError::StackUnderflow),
-            Call::PushMatrix => error_unless(
-                self.depth() < self.most_depth(),
-                GlError::StackOverflow,
-            ),
-            Call::Viewport { width, height, .. } => value_unless(is_extent(*width, *height)),
-            _ => None,
+        match self.finding(call) {
+            Finding::Number(_) => None,
+            Finding::Fault(fault) => fault,
         }
     }
 
-    /// The first error of a call that is answered.
-    #[tactic(auto, unfolding(crate::specs::Fault::fault_of, gl_words::specs::Call::is_answering))]
-    fn get_fault(&self, call: &Call) -> Option<GlError>
-        requires { is_answering call.now ≡ true }
-        ensures { result ≡ fault_of self.now call.now }
+    /// What is found of a call, at one look: the number of tracked state for which it asks (section 6.1), else its error.
+    #[tactic(auto, unfolding(crate::specs::Fault::fault_of, crate::specs::Step::number_asked))]
+    pub fn finding(&self, call: &Call) -> Finding
+        ensures number { number_found result ≡ number_asked self.now call.now }
+        ensures fault { fault_found result ≡ fault_of self.now call.now }
     {
         match call {
-            Call::GetFixedv { pname, .. } => enum_unless(is_fixed_name(*pname)),
-            Call::GetIntegerv { pname, .. } => {
-                let known = self.integer(*pname).is_some() || is_other_integer(*pname);
-                enum_unless(known)
-            }
-            Call::GetPointerv { pname, .. } => enum_unless(self.pointer(*pname).is_some()),
-            Call::IsEnabled { cap } => enum_unless(is_capability(*cap) || is_array_name(*cap)),
+            Call::ActiveTexture { texture } => Finding::Fault(enum_unless(is_unit(*texture))),
+            Call::Clear { mask } => Finding::Fault(value_unless(is_known_mask(*mask))),
+            Call::ClientActiveTexture { texture } => Finding::Fault(enum_unless(is_unit(*texture))),
+            Call::ColorPointer { .. }
+            | Call::NormalPointer { .. }
+            | Call::TexCoordPointer { .. }
+            | Call::VertexPointer { .. } => Finding::Fault(array_fault(call)),
+            Call::DisableClientState { array } => Finding::Fault(enum_unless(is_array_name(
+                *array,
+            ))),
+            Call::EnableClientState { array } => Finding::Fault(enum_unless(is_array_name(*array))),
+            Call::Frustumx { .. } | Call::Orthox { .. } => Finding::Fault(sides_fault(call)),
+            Call::GetFixedv { pname, .. } => Finding::Fault(enum_unless(is_fixed_name(*pname))),
+            Call::GetIntegerv { pname, .. } => self.find_integer(*pname),
+            Call::GetPointerv { pname, .. } => self.find_pointer(*pname),
+            Call::IsEnabled { cap } => self.find_enabled(*cap),
+            Call::MatrixMode { mode } => Finding::Fault(enum_unless(is_matrix_mode(*mode))),
+            Call::PixelStorei { pname, param } => Finding::Fault(alignment_fault(*pname, *param)),
+            Call::PopMatrix => Finding::Fault(error_unless(
+                self.depth() > 1,
+                GlError::StackUnderflow,
+            )),
+            Call::PushMatrix => Finding::Fault(error_unless(
+                self.depth() < self.most_depth(),
+                GlError::StackOverflow,
+            )),
             Call::ReadPixels {
                 width,
                 height,
                 format,
                 kind,
                 ..
-            } => pixels_fault(*width, *height, *format, *kind),
-            _ => None,
+            } => Finding::Fault(pixels_fault(*width, *height, *format, *kind)),
+            Call::Viewport { width, height, .. } => Finding::Fault(value_unless(is_extent(
+                *width, *height,
+            ))),
+            _ => Finding::Fault(None),
+        }
+    }
+
+    /// The number of tracked state that GetIntegerv gives for a name, or the error where it doesn't take the name.
+    fn find_integer(&self, name: u32) -> Finding
+        ensures number { number_found result ≡ integer_asked self.now name }
+        ensures fault { fault_found result
+            ≡ (if is_some (integer_asked self.now name) || is_among other_integers name
+            then None else Some GlError.InvalidEnum) }
+    {
+        match self.integer(name) {
+            Some(number) => Finding::Number(number),
+            None => Finding::Fault(enum_unless(is_other_integer(name))),
+        }
+    }
+
+    /// The number of tracked state that GetPointerv gives for a name, or the error where it doesn't take the name.
+    fn find_pointer(&self, name: u32) -> Finding
+        ensures number { number_found result ≡ pointer_asked self.now name }
+        ensures fault { fault_found result
+            ≡ (if is_some (pointer_asked self.now name) then None else Some GlError.InvalidEnum) }
+    {
+        match self.pointer(name) {
+            Some(number) => Finding::Number(number),
+            None => Finding::Fault(Some(GlError::InvalidEnum)),
+        }
+    }
+
+    /// The number of tracked state that IsEnabled gives for a name, or the error where it doesn't take the name.
+    fn find_enabled(&self, name: u32) -> Finding
+        ensures number { number_found result ≡ enabled_asked self.now name }
+        ensures fault { fault_found result
+            ≡ (if is_among capabilities name || is_among arrays name
+            then None else Some GlError.InvalidEnum) }
+    {
+        match self.enabled(name) {
+            Some(number) => Finding::Number(number),
+            None => Finding::Fault(enum_unless(is_capability(name))),
         }
     }
 }

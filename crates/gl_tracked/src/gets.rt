@@ -129,7 +129,7 @@ impl Tracked {
 
     /// What IsEnabled gives for a name, if it is one of an array (section 6.1.1).
     #[tactic(auto, unfolding(crate::specs::Gets::enabled_asked, crate::specs::Gets::enabled_rows))]
-    fn enabled(&self, name: u32) -> Option<i64>
+    pub(crate) fn enabled(&self, name: u32) -> Option<i64>
         ensures { result ≡ enabled_asked self.now name }
     {
         match name {

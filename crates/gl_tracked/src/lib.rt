@@ -4,9 +4,9 @@
 mod arrays;
 mod element;
 mod fault;
+mod finding;
 mod gets;
-#[cfg(test)]
-mod tests;
 mod tracked;
 
+pub use finding::Finding;
 pub use tracked::{ArrayState, Tracked};
