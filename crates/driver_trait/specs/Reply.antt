@@ -15,9 +15,3 @@ replied replies.Nothing = Nothing
 replied (replies.One number) = Numbers (number ∷ [])
 replied (replies.Numbers numbers) = Numbers numbers.items
 replied (replies.Bytes bytes) = Bytes bytes.items
-
--- the numbers of a reply: those of Numbers, and none else; own
-abbrev pub numbers_in : Replied → List ℤ
-numbers_in Nothing = []
-numbers_in (Numbers numbers) = numbers
-numbers_in (Bytes bytes) = []

@@ -36,7 +36,7 @@ pub trait Driver: Machine {
         memory: &M,
     ) -> Result<Reply, NoMemory>
         requires shared { IsSync T.row }
-        ensures ok { IfOk result
-            (λ reply. Self.steps self.old call.now (M.segments memory.now) self.new (replied reply)) }
+        ensures ok { IfOk result (λ reply.
+            Self.steps self.old call.now (M.segments memory.now) self.new (replied reply)) }
         ensures err { OnErr result (self.new ≡ self.old) };
 }

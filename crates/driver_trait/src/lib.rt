@@ -6,8 +6,6 @@ pub mod laws;
 mod output;
 mod recorder;
 mod reply;
-#[cfg(test)]
-mod tests;
 
 pub use driver::{Driver, Machine};
 pub use output::write_reply;

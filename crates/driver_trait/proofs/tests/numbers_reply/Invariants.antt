@@ -1,8 +1,0 @@
-use Rattle.std.proofs.Common.{◌≡◌, length}
-use Rattle.driver_trait.proofs.tests.numbers_reply.Given as goal
-
-abbrev pub invariant-loop-number : goal.invariant-loop-number
-invariant-loop-number l = record {
-  count : length l.list.items ≡ l.number-index;
-  room : l.list.room ≡ length l.numbers;
-}
