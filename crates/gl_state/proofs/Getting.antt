@@ -1,32 +1,24 @@
 -- What the gets reply: the number of tracked state that is asked for, else what the rows of private state give.
-use Rattle.std.proofs.Common.{◌≡◌, ℕ, ℤ, List, Option, Some, None, refl, ap}
+use Rattle.std.proofs.Common.{◌≡◌, ℕ, None, refl}
 use Rattle.std.specs.Option.{option_or}
 use Rattle.gl_words.specs.declared.call.Call.{Call}
 use Rattle.gl_words.specs.declared.call.Call.TheVariants.{GetIntegerv, GetPointerv, IsEnabled}
 use Rattle.gl_tracked.specs.Step.{number_asked}
-use Rattle.gl_tracked.specs.Gets.{integer_asked}
 use Rattle.gl_state.specs.Event.{EventReplied}
 use Rattle.gl_state.specs.Gets.{alone, capability_rows, found_beside, integers_asked, limit_rows, rectangle_rows, setting_rows, truth_asked}
 use Rattle.gl_state.specs.Private.{PrivateView}
 use Rattle.gl_state.specs.Step.{numbers_replied, private_reply}
 
--- of three numbers the first that there is, else a list: whether the choice is made among numbers or among lists
-alone-first : (a b c : Option ℤ) (others : Option (List ℤ)) → option_or (alone (option_or a (option_or b c))) others ≡ option_or (alone a) (option_or (alone b) (option_or (alone c) others))
-alone-first (Some a) b c others = refl
-alone-first None (Some b) c others = refl
-alone-first None None c others = refl
-
 module _ (p : PrivateView) (call : Call) (event : EventReplied) where
   integers_of : (pname params : ℕ)
-      → numbers_replied (option_or (alone (option_or (number_asked p.tracked (GetIntegerv pname params)) (option_or (found_beside (setting_rows p) pname) (found_beside limit_rows pname)))) (found_beside (rectangle_rows p) pname))
+      → numbers_replied (option_or (alone (number_asked p.tracked (GetIntegerv pname params))) (option_or (alone (found_beside (setting_rows p) pname)) (option_or (alone (found_beside limit_rows pname)) (found_beside (rectangle_rows p) pname))))
       ≡ private_reply None p (GetIntegerv pname params) event
   unfolding number_asked integers_asked
-  integers_of pname params =
-      ap numbers_replied (alone-first (integer_asked p.tracked pname) (found_beside (setting_rows p) pname) (found_beside limit_rows pname) (found_beside (rectangle_rows p) pname))
+  integers_of pname params = refl
 
-  -- GetIntegerv replies a number, of tracked state, of the settings or a limit, else a rectangle
+  -- GetIntegerv replies a number of tracked state, else a setting, else a limit, else a rectangle
   pub integers_replied : (pname params : ℕ) → call ≡ GetIntegerv pname params
-      → numbers_replied (option_or (alone (option_or (number_asked p.tracked call) (option_or (found_beside (setting_rows p) pname) (found_beside limit_rows pname)))) (found_beside (rectangle_rows p) pname))
+      → numbers_replied (option_or (alone (number_asked p.tracked call)) (option_or (alone (found_beside (setting_rows p) pname)) (option_or (alone (found_beside limit_rows pname)) (found_beside (rectangle_rows p) pname))))
       ≡ private_reply None p call event
   integers_replied pname params is = rw is (integers_of pname params)
 

@@ -1,5 +1,5 @@
 -- What a call does to private state with an error and without one, and what drivers need of it for their laws.
-use Rattle.std.proofs.Common.{◌≡◌, ℤ, false, List, [], ◌∷◌, Option, Some, None, refl, ap}
+use Rattle.std.proofs.Common.{◌≡◌, ◌≢◌, ℤ, false, List, [], ◌∷◌, Option, Some, None, refl, sym, ap, ◌∙◌}
 use Rattle.std.specs.Option.{option_or}
 use Rattle.std.proofs.lemmas.Option.{none-some}
 use Rattle.gl_words.specs.Call.{is_answering}
@@ -12,6 +12,7 @@ use Rattle.gl_tracked.specs.Fault.{fault_of}
 use Rattle.driver_trait.specs.Reply.{Nothing, Numbers}
 use Rattle.gl_tracked.specs.Step.{set_by, unless_fault, tracked_after, number_asked}
 use Rattle.gl_state.specs.declared.plan.Plan.{Plan}
+use Rattle.gl_state.specs.declared.plan.Plan.TheVariants.{Fault, Query}
 use Rattle.gl_state.specs.declared.settings.Settings.{Settings}
 use Rattle.gl_state.specs.Event.{EventReplied}
 use Rattle.gl_state.specs.Gets.{alone, capability_rows, found_beside, integers_asked, limit_rows, rectangle_rows, setting_rows, truth_asked}
@@ -32,11 +33,54 @@ fault_in-plan_of p call = fault_in-plan_by (fault_of p.tracked call) call
 pub fault_of-planned : (p : PrivateView) (call : Call) (plan : Plan) → plan ≡ plan_of p call → fault_of p.tracked call ≡ fault_in plan
 fault_of-planned p call plan planned = rw planned (rw (fault_in-plan_of p call) refl)
 
--- what a call without an error leaves, part by part
-pub private_after-parts : (p : PrivateView) (call : Call) (memory : List Segment) (event : EventReplied) {error : Option GlError} {tracked : Tracked} {stacks : StacksView} {settings : Settings}
-    → error ≡ error_set_by p.error call → tracked ≡ set_by p.tracked call memory → stacks ≡ stacks_set_by p.tracked p.stacks call memory → settings ≡ settings_set_by p.tracked p.settings call memory
-    → record p { error = error; tracked = tracked; stacks = stacks; settings = settings } ≡ private_after None p call memory event
-private_after-parts p call memory event e t s o = cc
+no_fault_by : (fault : Option GlError) (call : Call) (plan : Plan) → plan ≡ plan_by fault call → ((error : GlError) → plan ≢ Fault error) → fault ≡ None
+no_fault_by (Some error) call plan planned other = absurd (other error planned)
+no_fault_by None call plan planned other = refl
+
+-- a call that isn't planned as one with an error has none
+pub no_fault-planned : (p : PrivateView) (call : Call) (plan : Plan) → plan ≡ plan_of p call → ((error : GlError) → plan ≢ Fault error) → fault_of p.tracked call ≡ None
+unfolding plan_of
+no_fault-planned p call plan planned other = no_fault_by (fault_of p.tracked call) call plan planned other
+
+-- and its plan goes by the call alone
+pub plan_by-planned : (p : PrivateView) (call : Call) (plan : Plan) → plan ≡ plan_of p call → fault_of p.tracked call ≡ None → plan ≡ plan_by None call
+unfolding plan_of
+plan_by-planned p call plan planned none = planned ∙ ap (λ (fault : Option GlError). plan_by fault call) none
+
+query_by : (fault : Option GlError) (call : Call) → plan_by fault call ≡ Query → plan_by None call ≡ Query
+query_by (Some error) call query = absurd (cc)
+query_by None call query = query
+
+-- a call that is planned as a query has no error
+pub query-planned : (p : PrivateView) (call : Call) (plan : Plan) → plan ≡ plan_of p call → plan ≡ Query → plan_by None call ≡ Query
+unfolding plan_of
+query-planned p call plan planned query = query_by (fault_of p.tracked call) call (sym planned ∙ query)
+
+error_set_by-no_query : (error : Option GlError) (call : Call) → plan_by None call ≢ Query → error_set_by error call ≡ error
+error_set_by-no_query error GetError other = absurd (other refl)
+error_set_by-no_query error _ other = refl
+
+-- what a call leaves that has no error and is no query, part by part
+pub private_after-parts : (p : PrivateView) (call : Call) (memory : List Segment) (event : EventReplied) {tracked : Tracked} {stacks : StacksView} {settings : Settings} → plan_by None call ≢ Query
+    → tracked ≡ set_by p.tracked call memory → stacks ≡ stacks_set_by p.tracked p.stacks call memory → settings ≡ settings_set_by p.tracked p.settings call memory
+    → record p { tracked = tracked; stacks = stacks; settings = settings } ≡ private_after None p call memory event
+private_after-parts p call memory event other t s o = let same = error_set_by-no_query p.error call other in cc
+
+private_after-query_by : (p : PrivateView) (call : Call) (memory : List Segment) (event : EventReplied) → plan_by None call ≡ Query → record p { error = error_set_by p.error call } ≡ private_after None p call memory event
+unfolding set_by stacks_set_by settings_set_by
+private_after-query_by p GetError memory event query = refl
+private_after-query_by p (GetFixedv pname params) memory event query = refl
+private_after-query_by p (GetIntegerv pname params) memory event query = refl
+private_after-query_by p (GetPointerv pname params) memory event query = refl
+private_after-query_by p (IsEnabled cap) memory event query = refl
+private_after-query_by p _ memory event query = absurd (cc)
+
+-- a query leaves all but the recorded error
+pub private_after-query : (p : PrivateView) (call : Call) (memory : List Segment) (event : EventReplied) (plan : Plan) → plan ≡ plan_of p call → plan ≡ Query
+    → record p { error = error_set_by p.error call } ≡ private_after (fault_in plan) p call memory event
+private_after-query p call memory event plan planned query =
+    private_after-query_by p call memory event (query-planned p call plan planned query)
+    ∙ ap (λ (fault : Option GlError). private_after fault p call memory event) (sym (ap fault_in query))
 
 tracked_of-private_after_by : (fault : Option GlError) (p : PrivateView) (call : Call) (memory : List Segment) (event : EventReplied) → (private_after fault p call memory event).tracked ≡ unless_fault fault p.tracked (set_by p.tracked call memory)
 tracked_of-private_after_by None p call memory event = refl
@@ -68,6 +112,22 @@ module _ (p : PrivateView) (event : EventReplied) where
   private_reply-unanswered None (GetPointerv pname params) h = absurd (cc)
   private_reply-unanswered None (IsEnabled cap) h = absurd (cc)
   private_reply-unanswered None _ h = refl
+
+  pub private_reply-no_query_by : (fault : Option GlError) (call : Call) → plan_by fault call ≢ Query → private_reply fault p call event ≡ Nothing
+  private_reply-no_query_by (Some error) call other = refl
+  private_reply-no_query_by None GetError other = absurd (other refl)
+  private_reply-no_query_by None (GetFixedv pname params) other = absurd (other refl)
+  private_reply-no_query_by None (GetIntegerv pname params) other = absurd (other refl)
+  private_reply-no_query_by None (GetPointerv pname params) other = absurd (other refl)
+  private_reply-no_query_by None (IsEnabled cap) other = absurd (other refl)
+  private_reply-no_query_by None _ other = refl
+
+  -- only queries are answered from the private state
+  pub private_reply-no_query : (call : Call) (plan : Plan) → plan ≡ plan_of p call → plan ≢ Query → private_reply (fault_in plan) p call event ≡ Nothing
+  unfolding plan_of
+  private_reply-no_query call plan planned other =
+      ap (λ (fault : Option GlError). private_reply fault p call event) (sym (fault_of-planned p call plan planned))
+      ∙ private_reply-no_query_by (fault_of p.tracked call) call (λ query. other (planned ∙ query))
 
   -- a call that asks for a number of tracked state is answered by it alone
   pub private_reply-asked : (call : Call) (number : ℤ) → number_asked p.tracked call ≡ Some number → private_reply None p call event ≡ Numbers (number ∷ [])

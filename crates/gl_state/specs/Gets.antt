@@ -79,10 +79,11 @@ capability_rows p =
 unfoldable pub truth_asked : PrivateView → ℕ → Option (List ℤ)
 truth_asked p name = alone (option_or (enabled_asked p.tracked name) (found_beside (capability_rows p) name))
 
--- the names of GetFixedv and of GetIntegerv that give more than one number, and how many: CURRENT_COLOR, the matrices and COLOR_CLEAR_VALUE; VIEWPORT and SCISSOR_BOX; section 6.1
+-- the names of GetFixedv that give more than one number, and how many: CURRENT_COLOR, the matrices and COLOR_CLEAR_VALUE; section 6.1
 abbrev pub fixed_lists : List (ℕ × ℕ)
 fixed_lists = (0x0B00, 4) ∷ (0x0BA6, 16) ∷ (0x0BA7, 16) ∷ (0x0BA8, 16) ∷ (0x0C22, 4) ∷ []
 
+-- the names of GetIntegerv that give more than one number, and how many: VIEWPORT and SCISSOR_BOX; section 6.1
 abbrev pub integers_lists : List (ℕ × ℕ)
 integers_lists = (0x0BA2, 4) ∷ (0x0C10, 4) ∷ []
 

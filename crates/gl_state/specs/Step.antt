@@ -1,5 +1,5 @@
 -- What a call does to the private state of a context, what it replies, and what it needs beyond that state; sections 2.5, 2.10.1, 2.10.2, 4.2.3, 6.1. An error is handed to each part: who carries the call out finds it once.
-use Rattle.std.specs.Prelude.{ℕ, ℤ, pos, List, [], ◌∷◌, Option, Some, None}
+use Rattle.std.specs.Prelude.{ℕ, ℤ, pos, Bool, true, false, List, [], ◌∷◌, Option, Some, None}
 use Rattle.gl_words.specs.declared.call.Call.{Call}
 use Rattle.gl_words.specs.declared.call.Call.TheVariants.{Clear, ClearColorx, Frustumx, GetError, GetFixedv, GetIntegerv, GetPointerv, IsEnabled, LoadIdentity, Orthox, PopMatrix, PushMatrix, ReadPixels, Rotatex, Scalex, Translatex, Viewport}
 use Rattle.gl_words.specs.declared.error.GlError.{GlError}
@@ -17,7 +17,7 @@ use Rattle.gl_tracked.specs.Step.{set_by}
 use Rattle.driver_trait.specs.Reply.{Replied, Nothing, Numbers}
 use Rattle.gl_state.specs.declared.settings.Settings.{Settings}
 use Rattle.gl_state.specs.declared.plan.Plan.{Plan}
-use Rattle.gl_state.specs.declared.plan.Plan.TheVariants.{Fault, Local, Pixels}
+use Rattle.gl_state.specs.declared.plan.Plan.TheVariants.{Fault, Local, Pixels, Query}
 use Rattle.gl_state.specs.Event.{EventReplied}
 use Rattle.gl_state.specs.Gets.{alone, fixed_asked, fixed_length, integers_asked, integers_length, truth_asked}
 use Rattle.gl_state.specs.Private.{PrivateView}
@@ -31,6 +31,15 @@ with_change change tracked stacks = with_current stacks tracked.matrix_mode trac
 -- the current matrix is multiplied by another, which stands on the right; section 2.10.2
 abbrev pub with_product : Matrix → Tracked → StacksView → StacksView
 with_product right tracked stacks = with_change (λ matrices. product (top_of matrices) right ∷ below_top matrices) tracked stacks
+
+-- a call multiplies the current matrix; section 2.10.2
+abbrev pub is_product : Call → Bool
+is_product (Frustumx left right bottom top near far) = true
+is_product (Orthox left right bottom top near far) = true
+is_product (Rotatex angle x y z) = true
+is_product (Scalex x y z) = true
+is_product (Translatex x y z) = true
+is_product _ = false
 
 -- the stacks after a call without an error on a memory, from which no matrix is read yet; section 2.10.2
 unfoldable pub stacks_set_by : Tracked → StacksView → Call → List Segment → StacksView
@@ -99,10 +108,15 @@ list_length None (GetFixedv pname params) = fixed_length pname
 list_length None (GetIntegerv pname params) = integers_length pname
 list_length None _ = 0
 
--- what a call needs beyond the private state, with this error or none: Clear and ReadPixels the pixels of the frame, all others nothing; own
+-- what a call needs beyond the private state, with this error or none: Clear and ReadPixels the pixels of the frame, all others nothing, of which the queries are answered; own
 abbrev pub plan_by : Option GlError → Call → Plan
 plan_by (Some error) call = Fault error
 plan_by None (Clear mask) = Pixels
+plan_by None GetError = Query
+plan_by None (GetFixedv pname params) = Query
+plan_by None (GetIntegerv pname params) = Query
+plan_by None (GetPointerv pname params) = Query
+plan_by None (IsEnabled cap) = Query
 plan_by None (ReadPixels x y width height format kind pixels) = Pixels
 plan_by None _ = Local
 
@@ -113,5 +127,6 @@ plan_of p call = plan_by (fault_of p.tracked call) call
 -- the error of a plan, where it has one; own
 abbrev pub fault_in : Plan → Option GlError
 fault_in (Fault error) = Some error
+fault_in Query = None
 fault_in Local = None
 fault_in Pixels = None

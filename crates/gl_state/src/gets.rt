@@ -1,6 +1,6 @@
 //! What the gets give of private state. The numbers of its tracked part are told in the crate of drivers.
 
-ghost use Rattle.std.specs.Prelude.{◌≡◌, ◌+◌, ◌≤◌, ◌<◌, ◌++◌, [], None, Some, IsSome, length};
+ghost use Rattle.std.specs.Prelude.{◌≡◌, ◌≤◌, ◌<◌, [], None, Some, length};
 ghost use Rattle.std.specs.Option.{option_or};
 ghost use Rattle.gl_tracked.specs.Gets.{number_of_truth};
 ghost use Rattle.driver_trait.specs.Reply.{replied};
@@ -25,9 +25,7 @@ impl Private {
         match call {
             Call::GetError => Reply::One(i64::from(self.error_code())),
             Call::GetFixedv { pname, .. } => self.fixed(*pname, room),
-            Call::GetIntegerv { pname, .. } => {
-                one_or_all(self.integer(call, *pname), self.rectangle(*pname), room)
-            }
+            Call::GetIntegerv { pname, .. } => self.integers(call, *pname, room),
             Call::GetPointerv { .. } => one(self.tracked().asked(call)),
             Call::IsEnabled { cap } => one(self.truth(call, *cap)),
             _ => Reply::Nothing,
@@ -47,43 +45,49 @@ impl Private {
         }
     }
 
-    /// What GetIntegerv gives for a name, if it is one number (section 6.1.1).
-    fn integer(&self, call: &Call, name: u32) -> Option<i64>
-        ensures { result ≡ option_or (number_asked self.now.tracked call.now)
-            (option_or (found_beside (setting_rows self.now) name) (found_beside limit_rows name)) }
+    /// What GetIntegerv gives for a name, as a reply: a number of tracked state, else what the rest of the state gives
+    /// (section 6.1.1).
+    fn integers(&self, call: &Call, name: u32, room: Numbers) -> Reply
+        requires empty { room.items ≡ [] }
+        requires room { integers_length name ≤ room.room }
+        ensures { let p = self.now in replied result ≡ numbers_replied
+            (option_or (alone (number_asked p.tracked call.now))
+            (option_or (alone (found_beside (setting_rows p) name))
+            (option_or (alone (found_beside limit_rows name))
+            (found_beside (rectangle_rows p) name)))) }
     {
-        self.tracked()
-            .asked(call)
-            .or(self.setting(name).or(limit(name)))
-    }
-
-    #[tactic(auto, unfolding(crate::specs::Gets::setting_rows))]
-    fn setting(&self, name: u32) -> Option<i64>
-        ensures { result ≡ found_beside (setting_rows self.now) name }
-    {
-        let settings = self.settings();
-        match name {
-            0x0B45 => Some(i64::from(settings.cull_face)),
-            0x0B46 => Some(i64::from(settings.front_face)),
-            0x0B54 => Some(i64::from(settings.shade_model)),
-            0x0B74 => Some(i64::from(settings.depth_func)),
-            0x0BC1 => Some(i64::from(settings.alpha_func)),
-            0x0BE0 => Some(i64::from(settings.dest_factor)),
-            0x0BE1 => Some(i64::from(settings.source_factor)),
-            0x8069 => Some(i64::from(settings.bindings[self.unit()])),
-            _ => None,
+        match self.tracked().asked(call) {
+            Some(number) => Reply::One(number),
+            None => self.other_integers(name, room),
         }
     }
 
-    #[tactic(auto, unfolding(crate::specs::Gets::rectangle_rows, crate::specs::Gets::integers_length))]
-    fn rectangle(&self, name: u32) -> Option<[i32; 4]>
-        ensures numbers { result ≡ found_beside (rectangle_rows self.now) name }
-        ensures four { IsSome result → integers_length name ≡ 4 }
+    /// What GetIntegerv gives for a name of a setting, a limit or a rectangle, as a reply: the side of textures in texels
+    /// and how many units there are among them (table 6.20, the values own).
+    #[tactic(auto, unfolding(crate::specs::Gets::setting_rows, crate::specs::Gets::rectangle_rows, crate::specs::Gets::integers_length))]
+    fn other_integers(&self, name: u32, room: Numbers) -> Reply
+        requires empty { room.items ≡ [] }
+        requires room { integers_length name ≤ room.room }
+        ensures { let p = self.now in replied result ≡ numbers_replied
+            (option_or (alone (found_beside (setting_rows p) name))
+            (option_or (alone (found_beside limit_rows name))
+            (found_beside (rectangle_rows p) name))) }
     {
+        let settings = self.settings();
         match name {
-            0x0BA2 => Some(self.settings().viewport),
-            0x0C10 => Some(self.settings().scissor),
-            _ => None,
+            0x0B45 => Reply::One(i64::from(settings.cull_face)),
+            0x0B46 => Reply::One(i64::from(settings.front_face)),
+            0x0B54 => Reply::One(i64::from(settings.shade_model)),
+            0x0B74 => Reply::One(i64::from(settings.depth_func)),
+            0x0BC1 => Reply::One(i64::from(settings.alpha_func)),
+            0x0BE0 => Reply::One(i64::from(settings.dest_factor)),
+            0x0BE1 => Reply::One(i64::from(settings.source_factor)),
+            0x8069 => Reply::One(i64::from(settings.bindings[self.unit()])),
+            0x0D33 => Reply::One(256),
+            0x84E2 => Reply::One(2),
+            0x0BA2 => all(&settings.viewport, room),
+            0x0C10 => all(&settings.scissor, room),
+            _ => Reply::Nothing,
         }
     }
 
@@ -110,7 +114,10 @@ impl Private {
         ensures { result ≡ option_or (number_asked self.now.tracked call.now)
             (found_beside (capability_rows self.now) name) }
     {
-        self.tracked().asked(call).or(self.capability(name))
+        match self.tracked().asked(call) {
+            Some(number) => Some(number),
+            None => self.capability(name),
+        }
     }
 
     #[tactic(auto, unfolding(crate::specs::Gets::capability_rows))]
@@ -131,17 +138,6 @@ impl Private {
     }
 }
 
-/// The limit of a name: the side of textures in texels, and how many units there are (table 6.20, the values own).
-fn limit(name: u32) -> Option<i64>
-    ensures { result ≡ found_beside limit_rows name }
-{
-    match name {
-        0x0D33 => Some(256),
-        0x84E2 => Some(2),
-        _ => None,
-    }
-}
-
 /// 1 for what is so, 0 for what isn't (section 6.1.2).
 fn number_of_truth(is_so: bool) -> i64
     ensures { result ≡ number_of_truth is_so }
@@ -156,18 +152,6 @@ fn one(number: Option<i64>) -> Reply
     match number {
         Some(number) => Reply::One(number),
         None => Reply::Nothing,
-    }
-}
-
-/// A number as a reply, else four, where there are some.
-fn one_or_all(number: Option<i64>, four: Option<[i32; 4]>, room: Numbers) -> Reply
-    requires empty { room.items ≡ [] }
-    requires room { IsSome four → 4 ≤ room.room }
-    ensures { replied result ≡ numbers_replied (option_or (alone number) four) }
-{
-    match (number, four) {
-        (None, Some(four)) => all(&four, room),
-        (number, _) => one(number),
     }
 }
 

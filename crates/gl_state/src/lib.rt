@@ -7,8 +7,6 @@ mod plan;
 mod private;
 mod settings;
 mod stacks;
-#[cfg(test)]
-mod tests;
 
 pub use event::EventReply;
 pub use plan::Plan;

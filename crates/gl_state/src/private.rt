@@ -124,18 +124,10 @@ impl Private {
         self.settings.clear_colour
     }
 
-    /// The current matrix, by the matrix mode and the active unit (section 2.10.2).
-    pub fn matrix(&self) -> Matrix
-        ensures { let p = self.now in
-            result ≡ top_of (current_of p.stacks p.tracked.matrix_mode p.tracked.active) }
-    {
-        self.top_at(self.tracked.matrix_mode)
-    }
-
     /// The matrix that would be the current one in a mode, the active unit being as it is (section 2.10.2).
-    pub(crate) fn top_at(&self, mode: u32) -> Matrix
+    pub(crate) fn top_at(&self, mode: u32) -> &Matrix
         ensures { let p = self.now in
-            result ≡ top_of (current_of p.stacks mode p.tracked.active) }
+            result.now ≡ top_of (current_of p.stacks mode p.tracked.active) }
     {
         self.stacks.top(mode, self.tracked.active)
     }
@@ -162,53 +154,42 @@ impl Private {
     }
 
     /// Room for the numbers of a call's reply, where they are a list. Only this takes memory, and only for such a call; own.
-    pub fn room(&self, alloc: Global, plan: &Plan, call: &Call) -> Result<Numbers, NoMemory>
+    pub fn room(&self, alloc: Global, plan: Plan, call: &Call) -> Result<Numbers, NoMemory>
         ensures room { IfOk result (λ numbers. numbers
-            ≡ record { items = []; room = list_length (fault_in plan.now) call.now }) }
-        ensures err { IsErr result → list_length (fault_in plan.now) call.now ≢ 0 }
+            ≡ record { items = []; room = list_length (fault_in plan) call.now }) }
+        ensures err { IsErr result → list_length (fault_in plan) call.now ≢ 0 }
     {
-        match plan.fault() {
-            Some(_) => Ok(Numbers::none(alloc)),
-            None => self.room_without_fault(alloc, call),
+        match plan {
+            Plan::Fault(_) => Ok(Numbers::none(alloc)),
+            _ => room_without_fault(alloc, call),
         }
-    }
-
-    /// Room for the numbers of the reply to a call without an error.
-    fn room_without_fault(&self, alloc: Global, call: &Call) -> Result<Numbers, NoMemory>
-        ensures room { IfOk result (λ numbers. numbers
-            ≡ record { items = []; room = list_length None call.now }) }
-        ensures err { IsErr result → list_length None call.now ≢ 0 }
-    {
-        let count = list_length(call);
-        if count == 0 {
-            return Ok(Numbers::none(alloc));
-        }
-        Numbers::new(alloc, count)
     }
 
     /// What a call other than ReadPixels replies, as the private state shows it just before the call; the numbers of a
     /// list go into the room for them. It takes no memory (sections 2.5 and 6.1).
-    pub fn reply(&self, plan: &Plan, call: &Call, _event: &EventReply, room: Numbers) -> Reply
+    pub fn reply(&self, plan: Plan, call: &Call, _event: &EventReply, room: Numbers) -> Reply
+        requires plan { plan ≡ plan_of self.now call.now }
         requires empty { room.items ≡ [] }
-        requires room { list_length (fault_in plan.now) call.now ≤ room.room }
-        ensures { replied result ≡ private_reply (fault_in plan.now) self.now call.now
+        requires room { list_length (fault_in plan) call.now ≤ room.room }
+        ensures { replied result ≡ private_reply (fault_in plan) self.now call.now
             (event_replied _event.now) }
     {
-        match plan.fault() {
-            Some(_) => Reply::Nothing,
-            None => self.answer(call, room),
+        match plan {
+            Plan::Query => self.answer(call, room),
+            _ => Reply::Nothing,
         }
     }
 
     /// Takes the step of a call with its plan on a memory: an error is recorded, and nothing else is done (section 2.5).
-    pub fn finish<M: Memory>(&mut self, plan: &Plan, call: &Call, memory: &M, _event: &EventReply)
-        requires plan { plan.now ≡ plan_of self.old call.now }
-        ensures { self.new ≡ private_after (fault_in plan.now) self.old call.now
+    pub fn finish<M: Memory>(&mut self, plan: Plan, call: &Call, memory: &M, _event: &EventReply)
+        requires plan { plan ≡ plan_of self.old call.now }
+        ensures { self.new ≡ private_after (fault_in plan) self.old call.now
             (M.segments memory.now) (event_replied _event.now) }
     {
-        match plan.fault() {
-            Some(error) => self.note_error(error),
-            None => self.set(call, memory),
+        match plan {
+            Plan::Fault(error) => self.note_error(error),
+            Plan::Query => self.forget_error(call),
+            _ => self.set(call, memory),
         }
     }
 
@@ -221,13 +202,23 @@ impl Private {
         }
     }
 
-    /// Sets what a call without an error sets.
+    /// Forgets the recorded error where the call asks for it (section 2.5).
+    fn forget_error(&mut self, call: &Call)
+        ensures { self.new ≡ record self.old { error = error_set_by self.old.error call.now } }
+    {
+        match call {
+            Call::GetError => self.error = None,
+            _ => {}
+        }
+    }
+
+    /// Sets what a call without an error sets that is no query.
     fn set<M: Memory>(&mut self, call: &Call, memory: &M)
         requires no_fault { fault_of self.old.tracked call.now ≡ None }
+        requires no_query { plan_by None call.now ≢ Plan.Query }
         ensures { (event : EventReplied) → self.new
             ≡ private_after None self.old call.now (M.segments memory.now) event }
     {
-        self.error = error_after(self.error, call);
         self.settings.set(&self.tracked, call);
         // Before `note`: which stack is current, and that it has room, is what tracked state says before the call.
         self.stacks.set(&self.tracked, call);
@@ -235,14 +226,17 @@ impl Private {
     }
 }
 
-/// The recorded error after a call without an error: GetError forgets it (section 2.5).
-fn error_after(error: Option<GlError>, call: &Call) -> Option<GlError>
-    ensures { result ≡ error_set_by error call.now }
+/// Room for the numbers of the reply to a call without an error.
+fn room_without_fault(alloc: Global, call: &Call) -> Result<Numbers, NoMemory>
+    ensures room { IfOk result (λ numbers. numbers
+        ≡ record { items = []; room = list_length None call.now }) }
+    ensures err { IsErr result → list_length None call.now ≢ 0 }
 {
-    match call {
-        Call::GetError => None,
-        _ => error,
+    let count = list_length(call);
+    if count == 0 {
+        return Ok(Numbers::none(alloc));
     }
+    Numbers::new(alloc, count)
 }
 
 /// How many numbers a call without an error replies as a list, 0 where it replies one number or nothing.
@@ -283,6 +277,11 @@ fn plan_without_fault(call: &Call) -> Plan
 {
     match call {
         Call::Clear { .. } | Call::ReadPixels { .. } => Plan::Pixels,
+        Call::GetError
+        | Call::GetFixedv { .. }
+        | Call::GetIntegerv { .. }
+        | Call::GetPointerv { .. }
+        | Call::IsEnabled { .. } => Plan::Query,
         _ => Plan::Local,
     }
 }

@@ -1,11 +1,11 @@
 //! The stacks of matrices of a context.
 
-ghost use Rattle.std.specs.Prelude.{◌≡◌, ◌≢◌, ◌∷◌, length, List, None};
+ghost use Rattle.std.specs.Prelude.{◌≡◌, ◌≢◌, ◌∷◌, length, List, None, true};
 ghost use Rattle.gl_memory.specs.Segment.{Segment};
 ghost use Rattle.fixed_transform.specs.Stack.{top_of, below_top};
 ghost use Rattle.gl_tracked.specs.Fault.{fault_of};
 ghost use Rattle.gl_state.specs.Stacks.{first_stacks, current_of, with_current, most_of, depths_of};
-ghost use Rattle.gl_state.specs.Step.{stacks_set_by, with_product};
+ghost use Rattle.gl_state.specs.Step.{is_product, stacks_set_by, with_product};
 
 use fixed_transform::{Matrix, Stack, frustum, ortho, rotation, scaling, translation};
 use gl_tracked::Tracked;
@@ -48,17 +48,17 @@ impl Stacks {
     }
 
     /// The current matrix.
-    pub(crate) fn top(&self, mode: u32, active: u32) -> Matrix
-        ensures { result ≡ top_of (current_of self.now mode active) }
+    pub(crate) fn top(&self, mode: u32, active: u32) -> &Matrix
+        ensures { result.now ≡ top_of (current_of self.now mode active) }
     {
         if mode == 0x1700 {
-            *self.model_view.top()
+            self.model_view.top()
         } else if mode == 0x1701 {
-            *self.projection.top()
+            self.projection.top()
         } else if active == 0x84C0 {
-            *self.texture_zero.top()
+            self.texture_zero.top()
         } else {
-            *self.texture_one.top()
+            self.texture_one.top()
         }
     }
 
@@ -130,6 +130,30 @@ impl Stacks {
             ≡ stacks_set_by tracked.now self.old call.now memory }
     {
         match call {
+            Call::Frustumx { .. }
+            | Call::Orthox { .. }
+            | Call::Rotatex { .. }
+            | Call::Scalex { .. }
+            | Call::Translatex { .. } => self.multiply_by(tracked, call),
+            Call::LoadIdentity => {
+                self.set_top(tracked.matrix_mode, tracked.active, Matrix::identity());
+            }
+            Call::PopMatrix => self.pop(tracked.matrix_mode, tracked.active),
+            Call::PushMatrix => self.push(tracked.matrix_mode, tracked.active),
+            _ => {}
+        }
+    }
+
+    /// Multiplies the current matrix by that of a call without an error. It stands by itself, since a function sets up the
+    /// matrices of all its arms, and other calls need none.
+    #[tactic(auto, unfolding(crate::specs::Step::stacks_set_by))]
+    fn multiply_by(&mut self, tracked: &Tracked, call: &Call)
+        requires no_fault { fault_of tracked.now call.now ≡ None }
+        requires product { is_product call.now ≡ true }
+        ensures { (memory : List Segment) → self.new
+            ≡ stacks_set_by tracked.now self.old call.now memory }
+    {
+        match call {
             Call::Frustumx {
                 left,
                 right,
@@ -139,9 +163,6 @@ impl Stacks {
                 far,
             } => {
                 self.multiply(tracked, &frustum(*left, *right, *bottom, *top, *near, *far));
-            }
-            Call::LoadIdentity => {
-                self.set_top(tracked.matrix_mode, tracked.active, Matrix::identity());
             }
             Call::Orthox {
                 left,
@@ -153,8 +174,6 @@ impl Stacks {
             } => {
                 self.multiply(tracked, &ortho(*left, *right, *bottom, *top, *near, *far));
             }
-            Call::PopMatrix => self.pop(tracked.matrix_mode, tracked.active),
-            Call::PushMatrix => self.push(tracked.matrix_mode, tracked.active),
             Call::Rotatex { angle, x, y, z } => {
                 self.multiply(tracked, &rotation(*angle, *x, *y, *z));
             }

@@ -29,5 +29,5 @@ pub returns : goal.returns
 returns g c event =
     let memory = g.M.Memory.segments c.args.memory.now in
     let no_fault = ap (λ (p : PrivateView). fault_of p.tracked c.args.call.now) c.self.view_is ∙ c.requires.no_fault in
-    rw (← c.self.view_is) (private_after-parts (the_view c.self.inside) c.args.call.now memory event
-    c.error_after-self-inside.ensures (c.note.ensures.step ∙ tracked_after-no_fault c.self.inside.tracked c.args.call.now memory no_fault) (c.set-2.ensures memory) (c.set.ensures.set memory))
+    rw (← c.self.view_is) (private_after-parts (the_view c.self.inside) c.args.call.now memory event c.requires.no_query
+    (c.note.ensures.step ∙ tracked_after-no_fault c.self.inside.tracked c.args.call.now memory no_fault) (c.set-2.ensures memory) (c.set.ensures.set memory))
