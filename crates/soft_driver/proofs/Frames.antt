@@ -1,28 +1,32 @@
 -- Which calls leave the frame, and that none changes its sides.
-use Rattle.std.proofs.Common.{◌≡◌, ℕ, List, Option, Some, None, refl, sym, ap, ◌∙◌}
+use Rattle.std.proofs.Common.{◌≡◌, ◌≢◌, ℕ, List, Option, Some, None, refl, sym, ap, ◌∙◌}
 use Rattle.std.proofs.lemmas.Bool.{cond_both}
 use Rattle.gl_words.specs.declared.call.Call.{Call}
 use Rattle.gl_words.specs.declared.call.Call.TheVariants.{Clear}
 use Rattle.gl_words.specs.declared.error.GlError.{GlError}
 use Rattle.gl_memory.specs.Segment.{Segment}
 use Rattle.gl_tracked.specs.Fault.{fault_of}
-use Rattle.gl_state.specs.declared.plan.Plan.TheVariants.{Local}
+use Rattle.gl_state.specs.declared.plan.Plan.{Plan}
+use Rattle.gl_state.specs.declared.plan.Plan.TheVariants.{Pixels}
 use Rattle.gl_state.specs.Event.{EventReplied}
 use Rattle.gl_state.specs.Private.{PrivateView, first_private}
-use Rattle.gl_state.specs.Step.{plan_by, plan_of, private_after}
+use Rattle.gl_state.specs.Step.{fault_in, plan_by, plan_of, private_after}
+use Rattle.gl_state.proofs.Stepping.{fault_of-planned}
 use Rattle.soft_driver.specs.Frame.{FrameView, filled, first_frame}
 use Rattle.soft_driver.specs.Own.{AreTied, clears_colour, frame_after}
 
 module _ (state : PrivateView) (frame : FrameView) (memory : List Segment) (event : EventReplied) where
-  frame_after-local_by : (fault : Option GlError) (call : Call) → plan_by fault call ≡ Local → frame ≡ frame_after None state frame call memory event
-  frame_after-local_by (Some error) call h = absurd (cc)
-  frame_after-local_by None (Clear mask) h = absurd (cc)
-  frame_after-local_by None _ h = refl
+  leaves_by : (fault : Option GlError) (call : Call) → plan_by fault call ≢ Pixels → frame ≡ frame_after fault state frame call memory event
+  leaves_by (Some error) call other = refl
+  leaves_by None (Clear mask) other = absurd (other refl)
+  leaves_by None _ other = refl
 
   -- a call that needs no pixels leaves them
-  pub frame_after-local : (call : Call) → plan_of state call ≡ Local → frame ≡ frame_after None state frame call memory event
+  pub frame_after-no_pixels : (call : Call) (plan : Plan) → plan ≡ plan_of state call → plan ≢ Pixels → frame ≡ frame_after (fault_in plan) state frame call memory event
   unfolding plan_of
-  frame_after-local call h = frame_after-local_by (fault_of state.tracked call) call h
+  frame_after-no_pixels call plan planned other =
+      leaves_by (fault_of state.tracked call) call (λ is. other (planned ∙ is))
+      ∙ ap (λ (fault : Option GlError). frame_after fault state frame call memory event) (fault_of-planned state call plan planned)
 
   filled-same : (mask : ℕ) (side : FrameView → ℕ) → side (filled frame state.settings.clear_colour) ≡ side frame
       → side (frame_after None state frame (Clear mask) memory event) ≡ side frame

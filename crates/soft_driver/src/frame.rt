@@ -25,7 +25,8 @@ impl Model for Frame {
 
     ghost view = { λ f. record { width = f.width; height = f.height; pixels = f.pixels.items } };
 
-    ghost invariant = { λ f. IsFrame (record { width = f.width; height = f.height; pixels = f.pixels.items }) };
+    ghost invariant = { λ f. IsFrame
+        (record { width = f.width; height = f.height; pixels = f.pixels.items }) };
 }
 
 impl Frame {

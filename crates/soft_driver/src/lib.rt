@@ -2,12 +2,8 @@
 #![tactic(auto)]
 
 mod frame;
-#[cfg(test)]
-mod read_tests;
 mod reading;
 mod soft;
-#[cfg(test)]
-mod tests;
 
 pub use frame::Frame;
 pub use soft::Soft;

@@ -79,11 +79,25 @@ impl Soft {
 
     /// What a call with its plan replies, as the own state shows it just before the call. Only the reply of a list takes
     /// memory (sections 2.5, 4.3.1 and 6.1).
-    fn reply(&self, plan: &Plan, call: &Call, event: &EventReply) -> Result<Reply, NoMemory>
-        requires plan { plan.now ≡ plan_of self.now.state call.now }
+    fn reply(&self, plan: Plan, call: &Call, event: &EventReply) -> Result<Reply, NoMemory>
+        requires plan { plan ≡ plan_of self.now.state call.now }
         ensures reply { IfOk result (λ reply. replied reply
-            ≡ own_reply (fault_in plan.now) self.now call.now (event_replied event.now)) }
-        ensures memory { IsErr result → replies_list (fault_in plan.now) call.now ≡ true }
+            ≡ own_reply (fault_in plan) self.now call.now (event_replied event.now)) }
+        ensures memory { IsErr result → replies_list (fault_in plan) call.now ≡ true }
+    {
+        match plan {
+            Plan::Query => self.numbers(plan, call, event),
+            Plan::Pixels => self.read(call),
+            _ => Ok(Reply::Nothing),
+        }
+    }
+
+    /// What a call replies that needs pixels: only ReadPixels reads them (section 4.3.1).
+    fn read(&self, call: &Call) -> Result<Reply, NoMemory>
+        requires plan { plan_of self.now.state call.now ≡ Plan.Pixels }
+        ensures reply { (event : EventReplied) → IfOk result (λ reply. replied reply
+            ≡ own_reply None self.now call.now event) }
+        ensures memory { IsErr result → replies_list None call.now ≡ true }
     {
         match call {
             Call::ReadPixels {
@@ -92,11 +106,8 @@ impl Soft {
                 width,
                 height,
                 ..
-            } => match plan.fault() {
-                None => self.pixels(*x, *y, *width, *height),
-                Some(_) => Ok(Reply::Nothing),
-            },
-            _ => self.numbers(plan, call, event),
+            } => self.pixels(*x, *y, *width, *height),
+            _ => Ok(Reply::Nothing),
         }
     }
 
@@ -114,10 +125,11 @@ impl Soft {
     }
 
     /// What the private state replies.
-    fn numbers(&self, plan: &Plan, call: &Call, event: &EventReply) -> Result<Reply, NoMemory>
+    fn numbers(&self, plan: Plan, call: &Call, event: &EventReply) -> Result<Reply, NoMemory>
+        requires plan { plan ≡ plan_of self.now.state call.now }
         ensures reply { IfOk result (λ reply. replied reply
-            ≡ private_reply (fault_in plan.now) self.now.state call.now (event_replied event.now)) }
-        ensures memory { IsErr result → list_length (fault_in plan.now) call.now ≢ 0 }
+            ≡ private_reply (fault_in plan) self.now.state call.now (event_replied event.now)) }
+        ensures memory { IsErr result → list_length (fault_in plan) call.now ≢ 0 }
     {
         let room = self.state.room(self.alloc, plan, call)?;
         Ok(self.state.reply(plan, call, event, room))
@@ -151,9 +163,9 @@ impl Driver for Soft {
         ensures unanswered { is_answering call.now ≡ false → IsOk result }
     {
         let plan = self.state.plan(call);
-        let reply = self.reply(&plan, call, &EventReply)?;
-        draw(&plan, &self.state, &mut self.frame, call);
-        self.state.finish(&plan, call, memory, &EventReply);
+        let reply = self.reply(plan, call, &EventReply)?;
+        draw(plan, &self.state, &mut self.frame, call);
+        self.state.finish(plan, call, memory, &EventReply);
         Ok(reply)
     }
 }
@@ -167,15 +179,15 @@ fn side(number: i32) -> u32
 }
 
 /// Changes the pixels that a call with its plan changes.
-fn draw(plan: &Plan, state: &Private, frame: &mut Frame, call: &Call)
-    requires plan { plan.now ≡ plan_of state.now call.now }
+fn draw(plan: Plan, state: &Private, frame: &mut Frame, call: &Call)
+    requires plan { plan ≡ plan_of state.now call.now }
     ensures { (memory : List Segment) (event : EventReplied) → frame.new
-        ≡ frame_after (fault_in plan.now) state.now frame.old call.now memory event }
+        ≡ frame_after (fault_in plan) state.now frame.old call.now memory event }
 {
     match plan {
         Plan::Pixels => clear(state, frame, call),
         Plan::Fault(_) => {}
-        Plan::Local => {}
+        _ => {}
     }
 }
 
