@@ -1,5 +1,5 @@
 pub mod Words
-pub mod Segments
+pub mod SegmentLemmas
 pub mod Spellings
 pub mod Writing
 pub mod Reading

@@ -1,38 +1,25 @@
 -- Slots that are the spellings of calls, and what is left of them after some were read.
-use Rattle.std.proofs.Common.{◌≡◌, ℕ, ◌<◌, ◌≤◌, List, [], ◌∷◌, ◌++◌, length, map, drop, refl, sym, ap, ◌∙◌, arith}
-use Rattle.std.proofs.lemmas.List.{append-nil, append_assoc, append_cancel_left, length-append, drop_at, nil_from_length}
-use Rattle.std.specs.List.{flat_map}
-use Rattle.gl_words.specs.Call.{arguments}
-use Rattle.gl_words.specs.Slots.{slot_of}
-use Rattle.batch_pack.specs.Spelling.{Spelled, segment_spelling, slots_of, header_of, spelling_of, spellings_of, HasSpelling, HaveSpellings, AreSpellings}
-use Rattle.batch_pack.specs.Decoding.{slots_said, calls_in}
+use Rattle.std.proofs.Common.{◌≡◌, ℕ, ◌<◌, ◌≤◌, List, [], ◌∷◌, ◌++◌, length, refl, sym, ap, ◌∙◌, arith}
+use Rattle.std.proofs.lemmas.List.{append-nil, append_assoc, append_cancel_left, length-append, nil_from_length}
+use Rattle.batch_pack.specs.Spelling.{Spelled, slots_of, spelling_of, spellings_of, HasSpelling, HaveSpellings, AreSpellings}
+use Rattle.batch_pack.specs.Decoding.{calls_in}
 use Rattle.batch_pack.specs.Holding.{AreReadable}
-use Rattle.batch_pack.proofs.Spellings.{length-spelling_of, spelling_of-append, slots_said-header_of, same_first_call, spellings_of-append, spellings_of-cons, spellings_of-one, HaveSpellings-append, AreReadable-spelled, calls_in-spelled}
+use Rattle.batch_pack.proofs.Spellings.{length-spelling_of, same_first_call, spellings_of-append, spellings_of-cons, spellings_of-one, HaveSpellings-append, AreReadable-spelled, calls_in-spelled}
 
 -- slots are the spellings of calls that were read, and the rest
 abbrev pub IsReadTo : List ℕ → List ℕ → Type 0
 IsReadTo slots rest = (read : List Spelled) × HaveSpellings read × (slots ≡ spellings_of read ++ rest)
 
-pub long_enough : (rest more : List ℕ) (call : Spelled) → rest ≡ spelling_of call ++ more → slots_of call ≤ length rest
-long_enough rest more call spelled =
-    let e = ap length spelled ∙ length-append (spelling_of call) more in
-    omega (arith, length-spelling_of call)
-
 pub some_slots : (call : Spelled) → 1 ≤ slots_of call
 unfolding slots_of
 some_slots call = omega arith
 
-pub rest_behind : (rest more : List ℕ) (call : Spelled) → rest ≡ spelling_of call ++ more → drop (slots_of call) rest ≡ more
-rest_behind rest more call spelled =
-    ap (drop (slots_of call)) spelled ∙ drop_at (spelling_of call) more (slots_of call) (length-spelling_of call)
-
-pub less_left : (rest more : List ℕ) (call : Spelled) → rest ≡ spelling_of call ++ more → length (drop (slots_of call) rest) < length rest
+pub less_left : (rest more : List ℕ) (call : Spelled) → rest ≡ spelling_of call ++ more → length more < length rest
 less_left rest more call spelled =
-    let e1 = ap length spelled ∙ length-append (spelling_of call) more in
-    let e2 = ap length (rest_behind rest more call spelled) in
+    let e = ap length spelled ∙ length-append (spelling_of call) more in
     omega (arith, length-spelling_of call, some_slots call)
 
-pub reads_one_more : (slots rest more : List ℕ) (call : Spelled) → IsReadTo slots rest → HasSpelling call → rest ≡ spelling_of call ++ more → IsReadTo slots (drop (slots_of call) rest)
+pub reads_one_more : (slots rest more : List ℕ) (call : Spelled) → IsReadTo slots rest → HasSpelling call → rest ≡ spelling_of call ++ more → IsReadTo slots more
 reads_one_more slots rest more call before has spelled =
     let read = before.0 in
     let one = ap (λ (s : List ℕ). s ++ more) (spellings_of-append read (call ∷ []) ∙ ap (λ (s : List ℕ). spellings_of read ++ s) (spellings_of-one call)) in (
@@ -41,8 +28,7 @@ reads_one_more slots rest more call before has spelled =
       before.2
           ∙ ap (λ (s : List ℕ). spellings_of read ++ s) spelled
           ∙ sym (append_assoc (spellings_of read) (spelling_of call) more)
-          ∙ sym one
-          ∙ ap (λ (s : List ℕ). spellings_of (read ++ call ∷ []) ++ s) (sym (rest_behind rest more call spelled)),
+          ∙ sym one,
     )
 
 -- what is left of spellings after some calls are spellings again
@@ -94,19 +80,10 @@ calls_in-at_end (slot ∷ slots) readable none =
 
 module _ (slots more : List ℕ) (call : Spelled) (readable : AreReadable slots) (has : HasSpelling call) (begins : slots ≡ spelling_of call ++ more) where
   -- readable slots without the first spelling
-  pub AreReadable-rest : AreReadable (drop (slots_of call) slots)
-  AreReadable-rest =
-      let one = reads_one_more slots slots more call (nothing_read slots) has begins in
-      AreReadable-spellings (drop (slots_of call) slots) (AreSpellings-rest slots (drop (slots_of call) slots) one (spelled slots readable))
+  pub AreReadable-rest : AreReadable more
+  AreReadable-rest = AreReadable-spellings more (AreSpellings-rest slots more (reads_one_more slots slots more call (nothing_read slots) has begins) (spelled slots readable))
 
-  pub calls_in-first : calls_in slots ≡ call ∷ calls_in (drop (slots_of call) slots)
+  pub calls_in-first : calls_in slots ≡ call ∷ calls_in more
   calls_in-first =
-      let rest = drop (slots_of call) slots in
-      let whole = begins ∙ ap (λ (s : List ℕ). spelling_of call ++ s) (sym (rest_behind slots more call begins) ∙ AreReadable-rest.spelled) ∙ sym (spellings_of-cons call (calls_in rest)) in
-      calls_in-spelled slots (call ∷ calls_in rest) (has, AreReadable-rest.have) whole
-
--- a header's count of slots is that of the spelling which it begins
-pub said_slots : (slots more : List ℕ) (call : Spelled) (said : ℕ) → HasSpelling call → slots ≡ spelling_of call ++ more
-    → ((header : ℕ) (rest : List ℕ) → slots ≡ header ∷ rest → said ≡ slots_said header) → said ≡ slots_of call
-said_slots slots more call said has begins says =
-    says (header_of call) (map slot_of (arguments call.call) ++ (flat_map segment_spelling call.segments ++ more)) (begins ∙ spelling_of-append call more) ∙ slots_said-header_of call has
+      let whole = begins ∙ ap (λ (s : List ℕ). spelling_of call ++ s) AreReadable-rest.spelled ∙ sym (spellings_of-cons call (calls_in more)) in
+      calls_in-spelled slots (call ∷ calls_in more) (has, AreReadable-rest.have) whole

@@ -59,12 +59,29 @@ impl Batch {
             ↔ (slots_left self.old < slots_of (captured call.now pieces.now memory.now)) }
         ensures err { OnErr result (self.new ≡ self.old) }
     {
-        let count = spelling_slots(call, pieces);
-        if u64::from(self.size) - (self.slots.len() as u64) < count {
+        let slots = spelling_slots(call, pieces);
+        if u64::from(self.left()) < slots {
             return Err(Full);
         }
-        spell(&mut self.slots, call, pieces, memory.bytes(), count);
+        self.pack(call, pieces, memory, slots);
         Ok(())
+    }
+
+    /// Puts a call behind the others, as `try_pack` does, whose spelling has so many slots: they are counted, and are left.
+    pub fn pack(&mut self, call: &Call, pieces: &Pieces, memory: &ClientMemory, slots: u64)
+        requires count { slots ≡ slots_of (captured call.now pieces.now memory.now) }
+        requires fits { slots ≤ slots_left self.old }
+        ensures { self.new ≡ record self.old
+            { calls = self.old.calls ++ captured call.now pieces.now memory.now ∷ [] } }
+    {
+        spell(&mut self.slots, call, pieces, memory.bytes(), slots);
+    }
+
+    /// How many slots are left.
+    pub fn left(&self) -> u32
+        ensures { result ≡ slots_left self.now }
+    {
+        self.size - self.slots.len() as u32
     }
 
     /// How many slots the batch has.

@@ -1,25 +1,26 @@
 //! The call and the segments whose spelling slots begin with. Which slots come next is told by the reader.
 
-ghost use Rattle.std.specs.Prelude.{◌≡◌, ◌++◌, ◌+◌, ◌↔◌, ◌<◌, ◌≤◌, ◌^◌, ℕ, List, ◌∷◌, [], length, take, drop, map, IfSome, IsSome, IsTrue, Some};
+ghost use Rattle.std.specs.Prelude.{◌≡◌, ◌++◌, ◌+◌, ◌↔◌, ◌<◌, ◌≤◌, ◌^◌, ℕ, List, ◌∷◌, length, take, drop, map, IfSome, IsSome, IsTrue, Some};
 ghost use Rattle.std.specs.List.{flat_map, AllByRecursion};
 ghost use Rattle.gl_memory.specs.Segment.{Segment};
 ghost use Rattle.gl_memory.specs.Slots.{LieIn, lent};
 ghost use Rattle.batch_pack.specs.Spelling.{Spelled, slots_for, slots_of_bytes, segment_slots, segment_spelling, spelling_of, IsSegment, HasSpelling};
-ghost use Rattle.batch_pack.specs.Decoding.{segment_at, slots_said};
+ghost use Rattle.batch_pack.specs.Decoding.{segment_at};
 ghost use Rattle.batch_pack.specs.Packed.{spelled_by};
 
 use crate::packed::Packed;
+use crate::segments::{Segments, segments_from};
 use crate::spelling::words_of;
-use gl_memory::Segments;
 use gl_words::{arg_count, call_in};
 
 /// Where segments may end, in bytes of client memory: no place of theirs reaches it.
 const END: u64 = 0x4000_0000_0000_0000;
 
-/// The call and the segments whose spelling slots begin with. None exactly where they begin with no spelling.
-pub(crate) fn first_packed<'a>(slots: &'a [u64]) -> Option<Packed<'a>>
-    ensures found { IfSome result (λ packed. HasSpelling (spelled_by packed)
-        × (more : List ℕ) × (slots.now ≡ spelling_of (spelled_by packed) ++ more)) }
+/// The call and the segments whose spelling slots begin with, and the slots behind it. None exactly where they begin
+/// with no spelling.
+pub(crate) fn first_packed<'a>(slots: &'a [u64]) -> Option<(Packed<'a>, &'a [u64])>
+    ensures found { IfSome result (λ read. HasSpelling (spelled_by read.0)
+        × (slots.now ≡ spelling_of (spelled_by read.0) ++ read.1.now)) }
     ensures only { (spelled : Spelled) (more : List ℕ) → HasSpelling spelled
         → slots.now ≡ spelling_of spelled ++ more → IsSome result }
 {
@@ -29,19 +30,10 @@ pub(crate) fn first_packed<'a>(slots: &'a [u64]) -> Option<Packed<'a>>
     }
 }
 
-/// How many slots the spelling has that slots begin with, as its header says.
-pub(crate) fn spelled_slots(slots: &[u64]) -> u64
-    requires some { 1 ≤ length slots.now }
-    ensures { (header : ℕ) (rest : List ℕ) → slots.now ≡ header ∷ rest
-        → result ≡ slots_said header }
-{
-    slots[0] / 0x1_0000 % 0x1_0000_0000
-}
-
-/// The call and the segments whose spelling is a header and the first of the slots behind it.
-fn packed_behind<'a>(header: u64, rest: &'a [u64]) -> Option<Packed<'a>>
-    ensures found { IfSome result (λ packed. HasSpelling (spelled_by packed)
-        × (more : List ℕ) × (header ∷ rest.now ≡ spelling_of (spelled_by packed) ++ more)) }
+/// The call and the segments whose spelling is a header and the first of the slots behind it, and the other slots.
+fn packed_behind<'a>(header: u64, rest: &'a [u64]) -> Option<(Packed<'a>, &'a [u64])>
+    ensures found { IfSome result (λ read. HasSpelling (spelled_by read.0)
+        × (header ∷ rest.now ≡ spelling_of (spelled_by read.0) ++ read.1.now)) }
     ensures only { (spelled : Spelled) (more : List ℕ) → HasSpelling spelled
         → header ∷ rest.now ≡ spelling_of spelled ++ more → IsSome result }
 {
@@ -57,7 +49,7 @@ fn packed_behind<'a>(header: u64, rest: &'a [u64]) -> Option<Packed<'a>>
     if 1 + (rest.len() - left.len()) as u64 != header / 0x1_0000 % 0x1_0000_0000 {
         return None;
     }
-    Some(Packed { call, memory })
+    Some((Packed { call, memory }, left))
 }
 
 /// So many segments that slots begin with, and the slots behind them. None exactly where they begin with fewer.
@@ -70,31 +62,14 @@ fn segments_in<'a>(slots: &'a [u64], count: u64) -> Option<(Segments<'a>, &'a [u
         → length segments ≡ count → slots.now ≡ flat_map segment_spelling segments ++ more
         → IsSome result }
 {
-    let mut segments = Segments::new();
     let mut rest = slots;
     for _at in 0..count {
         match segment_length(rest) {
-            Some(taken) => {
-                add_segment(&mut segments, rest);
-                rest = rest.split_at(taken).1;
-            }
+            Some(taken) => rest = rest.split_at(taken).1,
             None => return None,
         }
     }
-    Some((segments, rest))
-}
-
-/// Adds last the segment that slots begin with, whose bytes are lent from them.
-fn add_segment<'a>(segments: &mut Segments<'a>, slots: &'a [u64])
-    requires room { length segments.old < 8 }
-    requires segment { IsSegment (segment_at slots.now) }
-    requires begins { (more : List ℕ)
-        × (slots.now ≡ segment_spelling (segment_at slots.now) ++ more) }
-    ensures { segments.new ≡ segments.old ++ segment_at slots.now ∷ [] }
-{
-    let start = slots[0];
-    let len = slots[1];
-    segments.push(start, len, slots.split_at(2).1, 0);
+    Some((segments_from(slots, count as usize), rest))
 }
 
 /// How many slots the segment takes that slots begin with. None exactly where they begin with no segment.

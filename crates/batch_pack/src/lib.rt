@@ -7,9 +7,8 @@ mod fault;
 mod laws;
 mod packed;
 mod reader;
+mod segments;
 mod spelling;
-#[cfg(test)]
-mod tests;
 mod writer;
 
 pub use batch::Batch;
@@ -17,4 +16,5 @@ pub use fault::{BadSlots, Full};
 pub use laws::spelling_law;
 pub use packed::Packed;
 pub use reader::{Reader, parse};
+pub use segments::Segments;
 pub use spelling::spelling_slots;

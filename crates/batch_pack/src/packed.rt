@@ -1,6 +1,6 @@
 //! What a reader gives.
 
-use gl_memory::Segments;
+use crate::segments::Segments;
 use gl_words::Call;
 
 /// A call read from slots, and the segments of client memory that were captured for it, lent from these slots.

@@ -5,7 +5,7 @@ ghost use Rattle.batch_pack.specs.Spelling.{Spelled, spellings_of, HasSpelling, 
 ghost use Rattle.batch_pack.specs.Decoding.{calls_in};
 ghost use Rattle.batch_pack.specs.Holding.{AreReadable};
 
-use crate::decoder::{first_packed, spelled_slots};
+use crate::decoder::first_packed;
 use crate::fault::BadSlots;
 use crate::packed::Packed;
 use std::marker::Model;
@@ -39,8 +39,8 @@ impl<'a> Reader<'a> {
             (λ packed. HasSpelling (record { call = packed.call; segments = packed.memory })) }
         ensures end { IfNone result (self.new ≡ self.old) }
     {
-        let packed = first_packed(self.slots)?;
-        self.slots = self.slots.split_at(spelled_slots(self.slots) as usize).1;
+        let (packed, left) = first_packed(self.slots)?;
+        self.slots = left;
         Some(packed)
     }
 }
@@ -56,7 +56,7 @@ pub fn parse(slots: &[u64]) -> Result<Reader<'_>, BadSlots>
     let mut rest = slots;
     'calls: while !rest.is_empty() {
         match first_packed(rest) {
-            Some(_) => rest = rest.split_at(spelled_slots(rest) as usize).1,
+            Some((_, left)) => rest = left,
             None => return Err(BadSlots),
         }
     }

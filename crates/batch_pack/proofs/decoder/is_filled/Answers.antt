@@ -1,7 +1,7 @@
 use Rattle.std.proofs.Common.{ℕ, ◌-◌, ◌/◌, ◌%◌, ◌*◌, ◌^◌, ◌≤◌, length, slice_index, eq-eqb, ap, sym, ◌∙◌, arith}
 use Rattle.std.proofs.lemmas.Bool.{eqb-true}
 use Rattle.batch_pack.specs.Spelling.{slots_for}
-use Rattle.batch_pack.proofs.Segments.{slots_for-holds, LieIn-slots_for, slots_for-LieIn, take-filled, filled-zeros, AreSmall-lent}
+use Rattle.batch_pack.proofs.SegmentLemmas.{slots_for-holds, LieIn-slots_for, slots_for-LieIn, take-filled, filled-zeros, AreSmall-lent}
 use Rattle.batch_pack.proofs.decoder.is_filled.Goals as goal
 
 pub returns-then-count-slots : goal.returns-then-count-slots

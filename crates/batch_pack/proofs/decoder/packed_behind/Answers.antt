@@ -7,7 +7,7 @@ use Rattle.gl_memory.specs.Segment.{Segment}
 use Rattle.gl_words.specs.Slots.{slot_of}
 use Rattle.batch_pack.specs.Spelling.{segment_spelling}
 use Rattle.batch_pack.specs.Decoding.{id_said, slots_said, segments_said}
-use Rattle.batch_pack.proofs.Segments.{same_segments}
+use Rattle.batch_pack.proofs.SegmentLemmas.{same_segments}
 use Rattle.batch_pack.proofs.Spellings.{drop-arguments}
 use Rattle.batch_pack.proofs.Reading.{few_said, id_is, rest_is, segments_is, slots_is, slots-read, read-HasSpelling, read-spelled}
 use Rattle.batch_pack.proofs.decoder.packed_behind.Goals as goal
@@ -71,6 +71,5 @@ returns-clause-found c =
     let split = behind_arguments rest c.split_at.result.1.now call c.arg_count.result (found.2) c.arg_count.ensures.count (found.3) c.split_at.ensures.back in
     let next = sym split ∙ read.2 in (
       read-HasSpelling header rest (found.2) left call segments (found.0) (found.1) (found.3) (read.0) (read.1) next c.if-count-gt8.false c.if-rest-left.false,
-      left,
       read-spelled header rest (found.2) left call segments (found.0) (found.1) (found.3) (read.0) (read.1) next c.if-count-gt8.false c.if-rest-left.false,
     )

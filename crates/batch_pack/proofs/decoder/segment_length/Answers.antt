@@ -1,7 +1,7 @@
 use Rattle.std.proofs.Common.{◌≡◌, ℕ, List, sym, subst, take, slice_index, refl, arith}
 use Rattle.gl_memory.specs.Slots.{LieIn, lent}
 use Rattle.batch_pack.specs.Spelling.{slots_for, slots_of_bytes}
-use Rattle.batch_pack.proofs.Segments.{long_enough, in_range, holds_bytes, is_filled, IsSegment-read, segment_slots-read, spelled-read}
+use Rattle.batch_pack.proofs.SegmentLemmas.{long_enough, in_range, holds_bytes, is_filled, IsSegment-read, segment_slots-read, spelled-read}
 use Rattle.batch_pack.proofs.decoder.segment_length.Goals as goal
 
 pub returns-then-slots-lt2-clause-only : goal.returns-then-slots-lt2-clause-only

@@ -1,41 +1,22 @@
-use Rattle.std.proofs.Common.{◌≡◌, ℕ, List, length, drop, Ok, ap, ◌∙◌, sym, subst, arith}
+use Rattle.std.proofs.Common.{◌≡◌, length, Ok, ap, arith}
 use Rattle.std.proofs.lemmas.Bool.Decides.{nat_tests}
 use Rattle.batch_pack.specs.Packed.{spelled_by}
 use Rattle.batch_pack.proofs.Spellings.{calls_in-spelled}
-use Rattle.batch_pack.proofs.Parsing.{IsReadTo, long_enough, some_slots, less_left, reads_one_more, nothing_read, all_read, spelling_first, AreSpellings-rest, AreReadable-spellings, said_slots}
+use Rattle.batch_pack.proofs.Parsing.{less_left, reads_one_more, nothing_read, all_read, spelling_first, AreSpellings-rest, AreReadable-spellings}
 use Rattle.batch_pack.proofs.reader.parse.Goals as goal
 
 pub calls-init : goal.calls-init
 calls-init c = nothing_read c.args.slots.now
 
-pub spelled_slots-requires : goal.spelled_slots-requires
-spelled_slots-requires c =
-    let found = c.in-Some.ensures.found in
-    let call = spelled_by c.in-Some.field-0 in
-    omega (arith, long_enough c.calls.rest.now (found.1) call (found.2), some_slots call)
-
-pub split_at-requires : goal.split_at-requires
-split_at-requires c =
-    let found = c.in-Some.ensures.found in
-    let call = spelled_by c.in-Some.field-0 in
-    omega (arith, long_enough c.calls.rest.now (found.1) call (found.2), said_slots c.calls.rest.now (found.1) call c.spelled_slots.result (found.0) (found.2) c.spelled_slots.ensures)
-
 pub calls-smaller : goal.calls-smaller
 calls-smaller c =
     let found = c.in-Some.ensures.found in
-    let call = spelled_by c.in-Some.field-0 in
-    let said = said_slots c.calls.rest.now (found.1) call c.spelled_slots.result (found.0) (found.2) c.spelled_slots.ensures in
-    let same = c.split_at.ensures.back ∙ ap (λ (n : ℕ). drop n c.calls.rest.now) said in
-    omega (arith, ap length same, less_left c.calls.rest.now (found.1) call (found.2))
+    less_left c.calls.rest.now c.in-Some.left.now (spelled_by c.in-Some.field-0-0) (found.1)
 
 pub calls-preserved : goal.calls-preserved
 calls-preserved c =
     let found = c.in-Some.ensures.found in
-    let call = spelled_by c.in-Some.field-0 in
-    let said = said_slots c.calls.rest.now (found.1) call c.spelled_slots.result (found.0) (found.2) c.spelled_slots.ensures in
-    let same = c.split_at.ensures.back ∙ ap (λ (n : ℕ). drop n c.calls.rest.now) said in
-    let read = reads_one_more c.args.slots.now c.calls.rest.now (found.1) call c.calls.invariant (found.0) (found.2) in
-    subst (λ (s : List ℕ). IsReadTo c.args.slots.now s) (sym same) read
+    reads_one_more c.args.slots.now c.calls.rest.now c.in-Some.left.now (spelled_by c.in-Some.field-0-0) c.calls.invariant (found.0) (found.1)
 
 pub returns-in-None-clause-only : goal.returns-in-None-clause-only
 returns-in-None-clause-only c = λ calls have spelled.

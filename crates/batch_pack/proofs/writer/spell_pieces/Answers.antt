@@ -3,7 +3,7 @@ use Rattle.std.proofs.lemmas.List.{append_assoc, length-append}
 use Rattle.gl_memory.specs.ClientMemory.{memory_of}
 use Rattle.gl_memory.specs.Piece.{cut_out}
 use Rattle.batch_pack.specs.Spelling.{segment_spelling}
-use Rattle.batch_pack.proofs.Segments.{length-segment_spelling}
+use Rattle.batch_pack.proofs.SegmentLemmas.{length-segment_spelling}
 use Rattle.batch_pack.proofs.Writing.{spelled_to, pieces-more, pieces-all, pieces-fit, segment_slots-cut_out}
 use Rattle.batch_pack.proofs.writer.spell_pieces.Goals as goal
 

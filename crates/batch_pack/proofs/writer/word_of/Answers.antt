@@ -1,5 +1,5 @@
 use Rattle.std.proofs.Common.{◌*◌, sym, ◌∙◌, arith}
-use Rattle.batch_pack.proofs.Segments.{slots_for-holds}
+use Rattle.batch_pack.proofs.SegmentLemmas.{slots_for-holds}
 use Rattle.batch_pack.proofs.Writing.{slot_at-piece}
 use Rattle.batch_pack.proofs.writer.word_of.Goals as goal
 

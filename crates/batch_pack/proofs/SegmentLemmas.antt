@@ -1,9 +1,9 @@
 -- The spelling of segments: how long it is, and that what is read from it is what was spelled.
-use Rattle.std.proofs.Common.{◌≡◌, ℕ, ◌+◌, ◌-◌, ◌*◌, ◌/◌, ◌%◌, ◌^◌, ◌<◌, ◌≤◌, List, [], ◌∷◌, ◌++◌, length, slice_index, map, take, drop, inl, inr, refl, sym, ap, ◌∙◌, subst, lit<, arith}
+use Rattle.std.proofs.Common.{◌≡◌, ℕ, zero, suc, ◌+◌, ◌-◌, ◌*◌, ◌/◌, ◌%◌, ◌^◌, ◌<◌, ◌≤◌, List, [], ◌∷◌, ◌++◌, length, slice_index, map, take, drop, inl, inr, refl, sym, ap, ◌∙◌, subst, lit<, arith}
 use Rattle.std.specs.List.{AllByRecursion, flat_map, range_with_len, sum_by}
 use Rattle.std.proofs.lemmas.Bool.{cases_lt}
 use Rattle.std.proofs.lemmas.List.Elements.{All-from_get_or, recursion_from_All}
-use Rattle.std.proofs.lemmas.List.{append_assoc, append_cancel_left, append-nil, length-append, drop-drop, length-take-le, take_at, drop_at, get_or_past, get_or-take, get_or_append_left, take-append-drop}
+use Rattle.std.proofs.lemmas.List.{append_assoc, append_cancel_left, append-nil, length-append, length-drop, drop-drop, length-take-le, take_at, drop_at, get_or_past, get_or-take, get_or_append_left, take-append-drop}
 use Rattle.std.proofs.lemmas.List.Concat.{flat_map-append}
 use Rattle.std.proofs.lemmas.List.FromFn.{length-map-range_with_len, get_or-map-range_with_len, fill_by_all}
 use Rattle.std.proofs.lemmas.List.Sums.{sum_by-cons}
@@ -13,6 +13,7 @@ use Rattle.gl_memory.specs.Slots.{bytes_of_slots, LieIn, lent}
 use Rattle.gl_memory.proofs.SlotBytes.{length-lent, slice_index-lent, slice_index-bytes_of_slots, is_lent}
 use Rattle.batch_pack.specs.Spelling.{slots_for, slot_at, slots_of_bytes, segment_slots, segment_spelling, IsSegment}
 use Rattle.batch_pack.specs.Decoding.{segment_at, segments_at}
+use Rattle.batch_pack.specs.Holding.{BeginWith}
 use Rattle.batch_pack.proofs.Words.{AreSmall, AreSmall-from_bytes, byte-slot_at, slot_at-slot, few-slot_at}
 
 -- ---- bytes in slots
@@ -175,6 +176,25 @@ module _ (slots more : List ℕ) (segment : Segment) (is : IsSegment segment) (b
       let e = ap length behind_is ∙ length-append (slots_of_bytes segment.bytes) more in
       omega (arith, length_is, length-slots_of_bytes segment.bytes, slots_for-holds (length segment.bytes))
 
+  pub lies_in : LieIn slots 16 (slice_index slots 1)
+  lies_in = omega (arith, long_enough, holds_bytes, length-drop 2 slots)
+
+  pub count_is : slots_for (slice_index slots 1) ≡ slots_for (length segment.bytes)
+  count_is = ap slots_for length_is
+
+  pub fits_in : (count : ℕ) → count ≡ slots_for (slice_index slots 1) → 2 + count ≤ length slots
+  fits_in count is =
+      let e = ap length behind_is ∙ length-append (slots_of_bytes segment.bytes) more in
+      omega (arith, count_is, long_enough, length-drop 2 slots, length-slots_of_bytes segment.bytes)
+
+  -- the slots behind the segment, as many on as it takes
+  pub rest_is : (count : ℕ) → count ≡ slots_for (slice_index slots 1) → drop (2 + count) slots ≡ more
+  unfolding segment_slots
+  rest_is count is =
+      ap (λ (n : ℕ). drop (2 + n) slots) (is ∙ count_is)
+      ∙ ap (drop (segment_slots segment)) begins
+      ∙ drop-segment_spelling segment more
+
   pub is_filled : take (slots_for (slice_index slots 1)) (drop 2 slots) ≡ slots_of_bytes (lent (drop 2 slots) 0 (slice_index slots 1))
   is_filled =
       ap (λ (n : ℕ). take (slots_for n) (drop 2 slots)) length_is
@@ -272,6 +292,27 @@ next_segment (first ∷ read) (segment ∷ segments) rest more h k fewer same ne
     (both ∙ ap (λ (s : Segment). segment_spelling s ++ (flat_map segment_spelling segments ++ more)) (sym one)))
     next
 
+-- slots are the spellings of so many segments, and the rest
+abbrev pub AreReadTo : ℕ → List ℕ → List ℕ → Type 0
+AreReadTo count slots rest = (read : List Segment) × AllByRecursion IsSegment read × (length read ≡ count) × (slots ≡ flat_map segment_spelling read ++ rest)
+
+-- they are the segments that are read there
+pub segments_at-read : (count : ℕ) (slots rest : List ℕ) (h : AreReadTo count slots rest) → segments_at count slots ≡ h.0
+segments_at-read count slots rest h =
+    ap (λ (n : ℕ). segments_at n slots) (sym (h.2)) ∙ ap (segments_at (length (h.0))) (h.3) ∙ segments_at-spelled (h.0) rest (h.1)
+
+pub BeginWith-read : (count : ℕ) (slots rest : List ℕ) → count ≤ 8 → AreReadTo count slots rest → BeginWith count slots
+BeginWith-read count slots rest few h =
+    let same = segments_at-read count slots rest h in
+    record {
+      few = few;
+      are = subst (λ (list : List Segment). AllByRecursion IsSegment list) (sym same) (h.1);
+      spelled = (rest, h.3 ∙ ap (λ (list : List Segment). flat_map segment_spelling list ++ rest) (sym same));
+    }
+
+pub nothing_read : (slots : List ℕ) → AreReadTo 0 slots slots
+nothing_read slots = ([], tt, refl, refl)
+
 -- slots begin with the spellings of as many segments in one way only
 pub same_segments : (segments others : List Segment) (more rest : List ℕ) → AllByRecursion IsSegment segments → AllByRecursion IsSegment others
     → length segments ≡ length others → flat_map segment_spelling segments ++ more ≡ flat_map segment_spelling others ++ rest → segments ≡ others
@@ -280,3 +321,55 @@ same_segments segments others more rest h k many same =
     ∙ ap (segments_at (length segments)) same
     ∙ ap (λ (n : ℕ). segments_at n (flat_map segment_spelling others ++ rest)) many
     ∙ segments_at-spelled others rest k
+
+-- ---- slots that begin with segments, from the first on
+
+module _ (many others : ℕ) (one_more : many ≡ suc others) (slots : List ℕ) (begin : BeginWith many slots) where
+  abbrev behind_first : List ℕ
+  behind_first = drop (segment_slots (segment_at slots)) slots
+
+  first_and_others : segments_at many slots ≡ segment_at slots ∷ segments_at others behind_first
+  unfolding segments_at
+  first_and_others = ap (λ (n : ℕ). segments_at n slots) one_more
+
+  all_are : AllByRecursion IsSegment (segment_at slots ∷ segments_at others behind_first)
+  all_are = subst (λ (list : List Segment). AllByRecursion IsSegment list) first_and_others begin.are
+
+  all_spelled : slots ≡ segment_spelling (segment_at slots) ++ (flat_map segment_spelling (segments_at others behind_first) ++ begin.spelled.0)
+  all_spelled =
+      begin.spelled.1
+      ∙ ap (λ (list : List Segment). flat_map segment_spelling list ++ begin.spelled.0) first_and_others
+      ∙ flat_map-cons-append (segment_at slots) (segments_at others behind_first) (begin.spelled.0)
+
+  pub first_is : IsSegment (segment_at slots)
+  first_is = all_are.0
+
+  pub first_begins : (more : List ℕ) × (slots ≡ segment_spelling (segment_at slots) ++ more)
+  first_begins = (flat_map segment_spelling (segments_at others behind_first) ++ begin.spelled.0, all_spelled)
+
+  module _ (left : List ℕ) (behind : slots ≡ segment_spelling (segment_at slots) ++ left) where
+    behind_is_left : behind_first ≡ left
+    behind_is_left = ap (drop (segment_slots (segment_at slots))) behind ∙ drop-segment_spelling (segment_at slots) left
+
+    pub segments_at-first : segments_at many slots ≡ segment_at slots ∷ segments_at others left
+    segments_at-first = first_and_others ∙ ap (λ (s : List ℕ). segment_at slots ∷ segments_at others s) behind_is_left
+
+    pub BeginWith-others : BeginWith others left
+    BeginWith-others = record {
+      few = omega (arith, begin.few);
+      are = subst (λ (s : List ℕ). AllByRecursion IsSegment (segments_at others s)) behind_is_left (all_are.1);
+      spelled = (
+        begin.spelled.0,
+        append_cancel_left (segment_spelling (segment_at slots)) left (flat_map segment_spelling (segments_at others behind_first) ++ begin.spelled.0) (sym behind ∙ all_spelled)
+            ∙ ap (λ (s : List ℕ). flat_map segment_spelling (segments_at others s) ++ begin.spelled.0) behind_is_left,
+      );
+    }
+
+pub segments_at-none : (count : ℕ) (slots : List ℕ) → count ≡ 0 → segments_at count slots ≡ []
+unfolding segments_at
+segments_at-none count slots none = ap (λ (n : ℕ). segments_at n slots) none
+
+pub length-segments_at : (count : ℕ) (slots : List ℕ) → length (segments_at count slots) ≡ count
+unfolding segments_at
+length-segments_at zero slots = refl
+length-segments_at (suc n) slots = ap suc (length-segments_at n (drop (segment_slots (segment_at slots)) slots))
