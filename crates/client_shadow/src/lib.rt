@@ -5,8 +5,6 @@ mod class;
 pub mod laws;
 mod look;
 mod shadow;
-#[cfg(test)]
-mod tests;
 
 pub use class::{Class, sends_batch};
 pub use look::{Becomes, Look};

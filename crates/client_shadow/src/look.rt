@@ -14,8 +14,9 @@ pub enum Becomes {
     Answer(i64),
     /// All calls before it are carried out first, and then it.
     Sync,
-    /// It is put into a batch with these pieces of client memory, and carried out later.
-    Defer(Pieces),
+    /// It is put into a batch with these pieces of client memory, where its spelling takes so many slots, and carried out
+    /// later.
+    Defer { pieces: Pieces, slots: u64 },
 }
 
 impl Becomes {
@@ -26,7 +27,7 @@ impl Becomes {
         match self {
             Becomes::Answer(_) => Class::Answer,
             Becomes::Sync => Class::Sync,
-            Becomes::Defer(_) => Class::Defer,
+            Becomes::Defer { .. } => Class::Defer,
         }
     }
 }

@@ -1,22 +1,22 @@
 //! The tracked state of a context, as the layer knows it. It never sees a driver, and takes no memory.
 
-ghost use Rattle.std.specs.Prelude.{◌≡◌, ◌≢◌, ◌↔◌, if◌then◌else◌, ℕ, List, None, IsNone};
+ghost use Rattle.std.specs.Prelude.{◌≡◌, ◌≢◌, ◌↔◌, ℕ, List, None, IsNone};
+ghost use Rattle.gl_words.specs.Call.{is_answering, IsInRange};
 ghost use Rattle.gl_memory.specs.Segment.{Segment};
 ghost use Rattle.gl_memory.specs.ClientMemory.{memory_of};
 ghost use Rattle.gl_tracked.specs.Fault.{fault_of};
 ghost use Rattle.gl_tracked.specs.Step.{number_asked, tracked_after};
 ghost use Rattle.gl_tracked.specs.Tracked.{first_tracked, IsSound};
-ghost use Rattle.batch_pack.specs.Batch.{captured};
 ghost use Rattle.batch_pack.specs.Spelling.{slots_of};
-ghost use Rattle.client_shadow.specs.declared.class.Class.TheVariants.{Answer, Sync, Defer};
-ghost use Rattle.client_shadow.specs.Class.{class_of, class_unasked, is_finish, pieces_of};
-ghost use Rattle.client_shadow.specs.Look.{Captures, class_in, number_in};
+ghost use Rattle.client_shadow.specs.declared.class.Class.TheVariants.{Answer};
+ghost use Rattle.client_shadow.specs.Class.{captured_for, class_of, class_unasked, is_finish, pieces_of};
+ghost use Rattle.client_shadow.specs.Look.{Captures, CountsSlots, class_in, number_in};
 
 use crate::class::Class;
 use crate::look::{Becomes, Look};
 use batch_pack::spelling_slots;
 use gl_memory::{ClientMemory, Pieces};
-use gl_tracked::Tracked;
+use gl_tracked::{Finding, Tracked};
 use gl_words::{Call, GlError, is_answering};
 use std::marker::Model;
 
@@ -71,25 +71,50 @@ impl Shadow {
         ensures number { number_in result.becomes ≡ number_asked self.now call.now }
         ensures pieces { Captures result.becomes
             (pieces_of self.now call.now (memory_of memory.now)) }
+        ensures slots { CountsSlots result.becomes call.now memory.now }
         ensures fault { result.fault ≡ fault_of self.now call.now }
+        ensures in_range { IsInRange call.now }
     {
-        if let Some(number) = self.tracked.asked(call) {
-            return Look {
+        let answers = is_answering(call);
+        match self.tracked.finding(call) {
+            Finding::Number(number) => Look {
                 becomes: Becomes::Answer(number),
                 fault: None,
-            };
-        }
-        let fault = self.tracked.fault(call);
-        let pieces = pieces(&self.tracked, call, memory);
-        if waits(call, &pieces, slots) {
-            return Look {
-                becomes: Becomes::Sync,
+            },
+            Finding::Fault(fault) => Look {
+                becomes: self.wait_or_defer(call, answers, memory, slots),
                 fault,
-            };
+            },
         }
-        Look {
-            becomes: Becomes::Defer(pieces),
-            fault,
+    }
+
+    /// What becomes of a call that asks for no number of tracked state. The slots of one that waits in any case aren't counted.
+    #[tactic(auto, unfolding(crate::specs::Class::captured_for))]
+    fn wait_or_defer(
+        &self,
+        call: &Call,
+        answers: bool,
+        memory: &ClientMemory,
+        slots: u32,
+    ) -> Becomes
+        requires answers { answers ≡ is_answering call.now }
+        ensures class { class_in result ≡ class_unasked call.now
+            (slots_of (captured_for self.now call.now (memory_of memory.now))) slots }
+        ensures number { number_in result ≡ None }
+        ensures pieces { Captures result (pieces_of self.now call.now (memory_of memory.now)) }
+        ensures slots { CountsSlots result call.now memory.now }
+    {
+        if answers || is_finish(call) {
+            return Becomes::Sync;
+        }
+        let pieces = pieces(&self.tracked, call, memory);
+        let counted = spelling_slots(call, &pieces);
+        if u64::from(slots) < counted {
+            return Becomes::Sync;
+        }
+        Becomes::Defer {
+            pieces,
+            slots: counted,
         }
     }
 
@@ -116,15 +141,6 @@ fn pieces(_tracked: &Tracked, _call: &Call, _memory: &ClientMemory) -> Pieces
     ensures { result ≡ pieces_of _tracked.now _call.now (memory_of _memory.now) }
 {
     Pieces::new()
-}
-
-/// Whether a call that asks for no number of tracked state waits, with these pieces of client memory.
-fn waits(call: &Call, pieces: &Pieces, slots: u32) -> bool
-    ensures { (bytes : List ℕ)
-        → class_unasked call.now (slots_of (captured call.now pieces.now bytes)) slots
-        ≡ (if result then Sync else Defer) }
-{
-    is_answering(call) || is_finish(call) || u64::from(slots) < spelling_slots(call, pieces)
 }
 
 /// Whether a call is Finish (section 5.1).
