@@ -9,8 +9,6 @@ mod maker;
 mod rail;
 mod run;
 mod stretch;
-#[cfg(test)]
-mod tests;
 
 pub use batches::Batches;
 pub use inline::{InlineMaker, InlineRail};
