@@ -8,7 +8,7 @@ use Rattle.gl_memory.specs.ClientMemory.{memory_of}
 use Rattle.gl_memory.specs.declared.piece.Piece.{Piece}
 use Rattle.client_shadow.specs.declared.class.Class.{Class}
 use Rattle.client_shadow.specs.declared.class.Class.TheVariants.{Defer}
-use Rattle.batch_pack.specs.Batch.{BatchView, captured}
+use Rattle.batch_pack.specs.Batch.{BatchView, captured, slots_left}
 use Rattle.client_shadow.specs.Cutting.{ended_at, ended_by, open_after, open_by}
 use Rattle.batch_pack.specs.Spelling.{Spelled, slots_of}
 use Rattle.gl_tracked.specs.declared.tracked.Tracked.{Tracked}
@@ -19,12 +19,17 @@ use Rattle.client_shadow.proofs.Classes.{slots_of-defer}
 use Rattle.client_shadow.proofs.Capturing.{captured_agrees, captured-captured_for}
 use Rattle.gl_front.specs.FrontState.{open_calls}
 
--- the open batch that is there has its size and its calls
-pub batch_size : (batch : Option BatchView) (there : BatchView) (size : ℕ) → batch ≡ Some there → MatchOption batch ⊥ (λ b. b.size ≡ size) → there.size ≡ size
-batch_size batch there size is sized = subst (λ (b : Option BatchView). MatchOption b ⊥ (λ p. p.size ≡ size)) is sized
+-- the open batch that is there has the calls, and the slots left, that are seen of it
+module _ (held : Option BatchView) (batch : BatchView) (is : held ≡ Some batch) where
+  pub batch_calls : batch.calls ≡ open_calls held
+  batch_calls = sym (ap open_calls is)
 
-pub batch_calls : (batch : Option BatchView) (there : BatchView) → batch ≡ Some there → there.calls ≡ open_calls batch
-batch_calls batch there is = sym (ap open_calls is)
+  pub batch_left : (size : ℕ) → MatchOption held ⊥ (λ b. b.size ≡ size) → slots_left batch ≡ slots_left (record { size = size; calls = open_calls held })
+  batch_left size sized =
+      let same : batch.size ≡ size = subst (λ (b : Option BatchView). MatchOption b ⊥ (λ p. p.size ≡ size)) is sized in
+      let resized : ℕ → BatchView = λ n. record { size = n; calls = batch.calls } in
+      let with_calls : List Spelled → BatchView = λ l. record { size = size; calls = l } in
+      ap slots_left (ap resized same ∙ ap with_calls batch_calls)
 
 -- the class of a call as it is issued
 pub class-issued_at : (tracked : Tracked) (call : Call) (memory : List Segment) (slots : ℕ) → (issued_at tracked call memory slots).class ≡ class_of tracked call memory slots
@@ -43,19 +48,15 @@ module _ (tracked : Tracked) (call : Call) (bytes : List ℕ) (slots : ℕ) (pie
   captured-agrees =
       subst (λ (l : List Piece). AgreesOn (memory_of bytes) (cut l (memory_of bytes)) (reads_of tracked call (memory_of bytes))) (sym are) (captured_agrees tracked call (memory_of bytes) slots class)
 
-  module _ (size : ℕ) (calls other_calls : List Spelled) (same_size : size ≡ slots) (same_calls : calls ≡ other_calls) where
-    pub ended_by-issued : ended_by Defer size calls (captured call pieces bytes) ≡ ended_at slots other_calls (issued_at tracked call (memory_of bytes) slots)
+  module _ (calls : List Spelled) where
+    pub ended_by-issued : ended_by Defer slots calls (captured call pieces bytes) ≡ ended_at slots calls (issued_at tracked call (memory_of bytes) slots)
     unfolding ended_at issued_at
     ended_by-issued =
-        ap (λ (n : ℕ). ended_by Defer n calls (captured call pieces bytes)) same_size
-        ∙ ap (λ (l : List Spelled). ended_by Defer slots l (captured call pieces bytes)) same_calls
-        ∙ ap (λ (spelled : Spelled). ended_by Defer slots other_calls spelled) (captured-captured_for tracked call pieces bytes are)
-        ∙ ap (λ (k : Class). ended_by k slots other_calls (captured_for tracked call (memory_of bytes))) (sym class)
+        ap (λ (spelled : Spelled). ended_by Defer slots calls spelled) (captured-captured_for tracked call pieces bytes are)
+        ∙ ap (λ (k : Class). ended_by k slots calls (captured_for tracked call (memory_of bytes))) (sym class)
 
-    pub open_by-issued : open_by Defer size calls (captured call pieces bytes) ≡ open_after slots other_calls (issued_at tracked call (memory_of bytes) slots)
+    pub open_by-issued : open_by Defer slots calls (captured call pieces bytes) ≡ open_after slots calls (issued_at tracked call (memory_of bytes) slots)
     unfolding open_after issued_at
     open_by-issued =
-        ap (λ (n : ℕ). open_by Defer n calls (captured call pieces bytes)) same_size
-        ∙ ap (λ (l : List Spelled). open_by Defer slots l (captured call pieces bytes)) same_calls
-        ∙ ap (λ (spelled : Spelled). open_by Defer slots other_calls spelled) (captured-captured_for tracked call pieces bytes are)
-        ∙ ap (λ (k : Class). open_by k slots other_calls (captured_for tracked call (memory_of bytes))) (sym class)
+        ap (λ (spelled : Spelled). open_by Defer slots calls spelled) (captured-captured_for tracked call pieces bytes are)
+        ∙ ap (λ (k : Class). open_by k slots calls (captured_for tracked call (memory_of bytes))) (sym class)

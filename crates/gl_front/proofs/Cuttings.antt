@@ -1,5 +1,5 @@
 -- How an open batch is cut at one call.
-use Rattle.std.proofs.Common.{◌≡◌, ℕ, ◌+◌, ◌<◌, ◌≤◌, false, true, cond, List, [], ◌∷◌, ◌++◌, length, Result, Ok, Err, OnOk, IsErr, refl, ap, sym, ◌∙◌, arith}
+use Rattle.std.proofs.Common.{◌≡◌, ℕ, ◌+◌, ◌≤◌, false, cond, List, [], ◌∷◌, ◌++◌, length, refl, ap, sym, ◌∙◌, arith}
 use Rattle.std.proofs.lemmas.List.{length-append}
 use Rattle.client_shadow.specs.declared.class.Class.TheVariants.{Defer}
 use Rattle.batch_pack.specs.Spelling.{Spelled, slots_of}
@@ -7,7 +7,7 @@ use Rattle.batch_pack.specs.Batch.{BatchView, empty_batch, slots_used, slots_lef
 use Rattle.client_shadow.specs.Flush.{is_flush}
 use Rattle.client_shadow.specs.Cutting.{batch_unless_empty, joined, cut_before, ended_by, open_by}
 use Rattle.batch_pack.proofs.Packings.{slots_used-nil, slots_used-append, slots_used-one}
-use Rattle.client_shadow.proofs.Batching.{fits_empty, joined-fits}
+use Rattle.client_shadow.proofs.Batching.{cut_before-fits, fits_empty, joined-fits}
 use Rattle.batch_pack.proofs.Parsing.{some_slots}
 
 -- a batch without slots in use has no calls
@@ -28,12 +28,6 @@ some_from_slots (call ∷ calls) some = refl
 pub batch_unless_empty-push : (calls : List Spelled) (call : Spelled) → batch_unless_empty (calls ++ call ∷ []) ≡ (calls ++ call ∷ []) ∷ []
 batch_unless_empty-push [] call = refl
 batch_unless_empty-push (first ∷ calls) call = refl
-
--- where a test that isn't met says 'below', it is not below
-pub not_below : (a b : ℕ) → (a < b → false ≡ true) → b ≤ a
-not_below a b never =
-    let contrary : a < b → ⊥ = λ (less : a < b). let e = never less in cc in
-    omega arith
 
 module _ (size : ℕ) (batch : List Spelled) (call : Spelled) where
   pub ended_by-behind : (calls : List Spelled) → calls ≡ joined size batch call ++ call ∷ []
@@ -59,17 +53,25 @@ packed_behind batch new call is fits =
     let joins = ap (λ (l : List Spelled). l ++ call ∷ []) (sym (joined-fits batch.size batch.calls call fits)) in
     ap (λ (b : BatchView). b.calls) is ∙ joins
 
-module _ (batch before empty new : BatchView) (call : Spelled) (short : slots_of call ≤ batch.size) (same : before ≡ batch) (is_empty : empty ≡ empty_batch before.size) where
-  emptied : empty ≡ empty_batch batch.size
-  emptied = is_empty ∙ ap (λ (b : BatchView). empty_batch b.size) same
+-- a call that is packed into an emptied batch is there alone
+pub packed_alone : (size : ℕ) (emptied new : BatchView) (call : Spelled) → emptied ≡ empty_batch size → new ≡ record { size = emptied.size; calls = emptied.calls ++ call ∷ [] }
+    → new.calls ≡ call ∷ []
+packed_alone size emptied new call empty is = ap (λ (b : BatchView). b.calls) is ∙ ap (λ (b : BatchView). b.calls ++ call ∷ []) empty
 
-  -- a call that is packed into an empty batch is there alone
-  pub packed_alone : {A E : Type 0} (result : Result A E) → OnOk result (new ≡ record { size = empty.size; calls = empty.calls ++ call ∷ [] })
-      → (IsErr result → slots_left empty < slots_of call) → new.calls ≡ call ∷ []
-  packed_alone (Ok done) ok full = ap (λ (b : BatchView). b.calls) ok ∙ ap (λ (b : BatchView). b.calls ++ call ∷ []) is_empty
-  packed_alone (Err refusal) ok full =
-      let left = ap slots_left emptied in
-      absurd (omega (arith, fits_empty batch.size call short, full refl, left))
+-- where it is no longer than the batch, it fits there
+pub fits_emptied : (size slots : ℕ) (emptied : BatchView) (call : Spelled) → emptied ≡ empty_batch size → slots ≡ slots_of call → slots ≤ size → slots ≤ slots_left emptied
+fits_emptied size slots emptied call empty counted short =
+    let left = ap slots_left empty in
+    let fits = fits_empty size call (omega (arith, counted, short)) in
+    omega (arith, left, fits, counted)
+
+-- a call that fits behind the calls of the open batch and isn't a Flush ends no batch, and joins them
+module _ (size : ℕ) (batch : List Spelled) (call : Spelled) (fits : slots_of call ≤ slots_left (record { size = size; calls = batch })) (flush : is_flush call.call ≡ false) where
+  pub ended_by-joins : ended_by Defer size batch call ≡ []
+  ended_by-joins = rw (flush, cut_before-fits size batch call fits) refl
+
+  pub open_by-joins : open_by Defer size batch call ≡ batch ++ call ∷ []
+  open_by-joins = rw (flush, joined-fits size batch call fits) refl
 
 -- where two lists together are empty, each is
 pub none_first : (first second : List (List Spelled)) → first ++ second ≡ [] → first ≡ []

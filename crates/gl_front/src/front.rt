@@ -1,10 +1,12 @@
 //! The front: the part of the layer that a program calls. It has no driver, and reaches one through its rail.
 
-ghost use Rattle.std.specs.Prelude.{◌≡◌, ◌^◌, ◌<◌, [], Some, true, IsErr, IfOk, IfErr, OnOk, OnErr};
-ghost use Rattle.gl_words.specs.Call.{IsInRange};
+ghost use Rattle.std.specs.Prelude.{◌≡◌, ◌^◌, ◌<◌, [], Some, true, false, IsErr, IfOk, IfErr, OnOk, OnErr};
+ghost use Rattle.gl_words.specs.Call.{is_answering, IsInRange};
+ghost use Rattle.batch_pack.specs.Batch.{captured};
+ghost use Rattle.batch_pack.specs.Spelling.{slots_of};
 ghost use Rattle.client_shadow.specs.declared.class.Class.TheVariants.{Answer, Sync, Defer};
 ghost use Rattle.client_shadow.specs.Class.{pieces_of};
-ghost use Rattle.client_shadow.specs.Look.{Captures, class_in, number_in};
+ghost use Rattle.client_shadow.specs.Look.{Captures, CountsSlots, class_in, number_in};
 ghost use Rattle.gl_tracked.specs.Fault.{fault_of};
 ghost use Rattle.gl_tracked.specs.Step.{number_asked, tracked_after};
 ghost use Rattle.gl_tracked.specs.Tracked.{first_tracked};
@@ -22,7 +24,7 @@ use batch_rail::Rail;
 use client_shadow::{Becomes, Class, Look, Shadow};
 use driver_trait::{Driver, Reply, write_reply};
 use gl_memory::{ClientMemory, Pieces};
-use gl_words::{Call, GlError, call_id};
+use gl_words::{Call, GlError};
 use std::alloc::{AllocError, AllocError as NoMemory, Global};
 use std::marker::{Model, PhantomData};
 use std::thread::Threads;
@@ -142,8 +144,8 @@ impl<D: Driver, R: Rail<D>> Front<D, R> {
         }
         let look = self.look(call);
         match &look.becomes {
-            Becomes::Defer(pieces) => {
-                self.put_off(rt, call, pieces, look.fault);
+            Becomes::Defer { pieces, slots } => {
+                self.put_off(rt, call, pieces, *slots, look.fault);
                 Ok(Reply::Nothing)
             }
             Becomes::Answer(number) => Ok(self.answer(call, *number)),
@@ -157,10 +159,10 @@ impl<D: Driver, R: Rail<D>> Front<D, R> {
         ensures number { number_in result.becomes ≡ number_asked self.now.tracked call.now }
         ensures pieces { Captures result.becomes
             (pieces_of self.now.tracked call.now (memory_of self.now.memory)) }
+        ensures slots { CountsSlots result.becomes call.now self.now.memory }
         ensures fault { result.fault ≡ fault_of self.now.tracked call.now }
         ensures in_range { IsInRange call.now }
     {
-        call_id(call);
         self.shadow.look(call, &self.memory, self.rail.slots())
     }
 
@@ -193,23 +195,27 @@ impl<D: Driver, R: Rail<D>> Front<D, R> {
     {
         let look = self.look(call);
         match &look.becomes {
-            Becomes::Defer(pieces) => self.put_off(rt, call, pieces, look.fault),
+            Becomes::Defer { pieces, slots } => {
+                self.put_off(rt, call, pieces, *slots, look.fault);
+            }
             Becomes::Answer(_) | Becomes::Sync => unreachable!(),
         }
     }
 
-    /// Puts a call into a batch with the pieces that are captured for it, and notes it.
+    /// Puts a call into a batch with the pieces that are captured for it, in so many slots, and notes it.
     fn put_off<T: Threads + Sync>(
         &mut self,
         rt: &T,
         call: &Call,
         pieces: &Pieces,
+        slots: u64,
         fault: Option<GlError>,
     )
         requires in_range { IsInRange call.now }
         requires class { class_at self.old call.now ≡ Defer }
         requires pieces { pieces.now
             ≡ pieces_of self.old.tracked call.now (memory_of self.old.memory) }
+        requires slots { slots ≡ slots_of (captured call.now pieces.now self.old.memory) }
         requires fault { fault ≡ fault_of self.old.tracked call.now }
         requires deferred { CanRise self.old.counts.deferred }
         requires batches { CanRise self.old.counts.batches }
@@ -219,11 +225,15 @@ impl<D: Driver, R: Rail<D>> Front<D, R> {
         ensures rises { KeepsCount R.sent self.old self.new }
     {
         self.memory.bytes();
-        let Some(batch) = self.batch.take() else {
-            return;
-        };
-        let (batch, sent) = put_off(rt, &mut self.rail, batch, call, pieces, &self.memory);
-        self.batch = Some(batch);
+        let sent = put_off(
+            rt,
+            &mut self.rail,
+            &mut self.batch,
+            call,
+            pieces,
+            &self.memory,
+            slots,
+        );
         self.counts.deferred += 1;
         self.counts.batches += sent;
         self.shadow.note(call, &self.memory, fault);
@@ -329,8 +339,9 @@ impl<D: Driver, R: Rail<D>> Front<D, R> {
     }
 }
 
-/// Notes a call with its error, and writes its reply into client memory. The reply is written last, since the tracked
-/// state takes the call on client memory as it was.
+/// Notes a call that gave nothing, with its error, or writes the reply of one that asks for something into client memory:
+/// the tracked state stays there.
+#[tactic(auto, unfolding(driver_trait::specs::Output::memory_after))]
 fn take_reply(
     shadow: &mut Shadow,
     memory: &mut ClientMemory,
@@ -339,10 +350,12 @@ fn take_reply(
     fault: Option<GlError>,
 )
     requires fault { fault ≡ fault_of shadow.old call.now }
+    requires silent { is_answering call.now ≡ false → replied reply.now ≡ Nothing }
     ensures tracked { shadow.new ≡ tracked_after shadow.old call.now (memory_of memory.old) }
     ensures memory { memory.new ≡ memory_after shadow.old call.now (replied reply.now) memory.old }
 {
-    let before = *shadow.tracked();
-    shadow.note(call, memory, fault);
-    write_reply(memory, &before, call, reply);
+    match reply {
+        Reply::Nothing => shadow.note(call, memory, fault),
+        _ => write_reply(memory, shadow.tracked(), call, reply),
+    }
 }

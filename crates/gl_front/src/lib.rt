@@ -4,8 +4,6 @@
 mod counts;
 mod front;
 mod steps;
-#[cfg(test)]
-mod tests;
 
 pub use counts::Counts;
 pub use front::Front;

@@ -12,6 +12,7 @@ ghost use Rattle.batch_rail.specs.Rail.{Gains, StandsForNoMore};
 ghost use Rattle.driver_trait.specs.Reply.{replied};
 ghost use Rattle.gl_memory.specs.ClientMemory.{memory_of};
 ghost use Rattle.gl_front.specs.Front.{FailsOnlyBy};
+ghost use Rattle.gl_front.specs.FrontState.{open_calls, IsReady};
 
 use batch_pack::Batch;
 use batch_rail::Rail;
@@ -60,9 +61,11 @@ fn put_behind<T: Threads + Sync, D: Driver, R: Rail<D>>(
     call: &Call,
     pieces: &Pieces,
     memory: &ClientMemory,
+    slots: u64,
 ) -> (Batch, u64)
     requires home { R.home rail.old }
-    requires fits { slots_of (captured call.now pieces.now memory.now) ≤ batch.size }
+    requires slots { slots ≡ slots_of (captured call.now pieces.now memory.now) }
+    requires fits { slots ≤ batch.size }
     requires size { batch.size ≡ R.size rail.old }
     requires room { R.sent rail.old < 2 ^ 62 }
     ensures kept { cut_before batch.size batch.calls (captured call.now pieces.now memory.now) ≡ []
@@ -86,14 +89,13 @@ fn put_behind<T: Threads + Sync, D: Driver, R: Rail<D>>(
         (cut_before batch.size batch.calls (captured call.now pieces.now memory.now)) }
 {
     let mut batch = batch;
-    match batch.try_pack(call, pieces, memory) {
-        Ok(()) => (batch, 0),
-        Err(_) => {
-            let (mut batch, count) = submit_unless_empty(rt, rail, batch);
-            let _packed = batch.try_pack(call, pieces, memory);
-            (batch, count)
-        }
+    if slots <= u64::from(batch.left()) {
+        batch.pack(call, pieces, memory, slots);
+        return (batch, 0);
     }
+    let (mut next, count) = submit_unless_empty(rt, rail, batch);
+    next.pack(call, pieces, memory, slots);
+    (next, count)
 }
 
 /// Submits a batch where its last call has it sent on its way. Gives the open batch behind it, and
@@ -132,15 +134,17 @@ fn submit_if_sent<T: Threads + Sync, D: Driver, R: Rail<D>>(
 
 /// Puts a deferred call behind those of the open batch, with the batches that end at it submitted.
 /// Gives the open batch behind the call, and how many were submitted: 0 to 2.
-pub fn put_off<T: Threads + Sync, D: Driver, R: Rail<D>>(
+fn put_off_and_submit<T: Threads + Sync, D: Driver, R: Rail<D>>(
     rt: &T,
     rail: &mut R,
     batch: Batch,
     call: &Call,
     pieces: &Pieces,
     memory: &ClientMemory,
+    slots: u64,
 ) -> (Batch, u64)
-    requires fits { slots_of (captured call.now pieces.now memory.now) ≤ batch.size }
+    requires slots { slots ≡ slots_of (captured call.now pieces.now memory.now) }
+    requires fits { slots ≤ batch.size }
     requires home { R.home rail.old }
     requires size { batch.size ≡ R.size rail.old }
     requires room { R.sent rail.old < 2 ^ 62 - 1 }
@@ -163,9 +167,59 @@ pub fn put_off<T: Threads + Sync, D: Driver, R: Rail<D>>(
     ensures journal { Gains (R.journal rail.old) (R.journal rail.new)
         (ended_by Defer batch.size batch.calls (captured call.now pieces.now memory.now)) }
 {
-    let (batch, before) = put_behind(rt, rail, batch, call, pieces, memory);
+    let (batch, before) = put_behind(rt, rail, batch, call, pieces, memory, slots);
     let (batch, behind) = submit_if_sent(rt, rail, batch, call);
     (batch, before + behind)
+}
+
+/// Puts a deferred call behind those of the open batch, with the batches that end at it submitted. Where the call fits and
+/// doesn't send the batch, none ends, and the rail isn't touched. Tells how many were submitted: 0 to 2.
+pub fn put_off<T: Threads + Sync, D: Driver, R: Rail<D>>(
+    rt: &T,
+    rail: &mut R,
+    open_batch: &mut Option<Batch>,
+    call: &Call,
+    pieces: &Pieces,
+    memory: &ClientMemory,
+    slots: u64,
+) -> u64
+    requires slots { slots ≡ slots_of (captured call.now pieces.now memory.now) }
+    requires fits { slots ≤ R.size rail.old }
+    requires ready { IsReady (R.home rail.old) (R.size rail.old) open_batch.old }
+    requires room { R.sent rail.old < 2 ^ 62 - 1 }
+    ensures kept { ended_by Defer (R.size rail.old) (open_calls open_batch.old)
+        (captured call.now pieces.now memory.now) ≡ [] → rail.new ≡ rail.old }
+    ensures failed { FailsOnlyBy (R.failed rail.old) (R.failed rail.new)
+        (ended_by Defer (R.size rail.old) (open_calls open_batch.old)
+        (captured call.now pieces.now memory.now)) }
+    ensures calls { open_calls open_batch.new ≡ open_by Defer (R.size rail.old) (open_calls open_batch.old)
+        (captured call.now pieces.now memory.now) }
+    ensures count { result ≡ length (ended_by Defer (R.size rail.old) (open_calls open_batch.old)
+        (captured call.now pieces.now memory.now)) }
+    ensures few { result ≤ 2 }
+    ensures stands { (st2 : D) → RunsFrom (R.stands rail.new) D.steps (open_calls open_batch.new) st2
+        → RunsFrom (R.stands rail.old) D.steps
+        (open_calls open_batch.old ++ captured call.now pieces.now memory.now ∷ []) st2 }
+    ensures ready { IsReady (R.home rail.new) (R.size rail.new) open_batch.new }
+    ensures rail_size { R.size rail.new ≡ R.size rail.old }
+    ensures sent { R.sent rail.new ≡ R.sent rail.old + result }
+    ensures journal { Gains (R.journal rail.old) (R.journal rail.new)
+        (ended_by Defer (R.size rail.old) (open_calls open_batch.old)
+        (captured call.now pieces.now memory.now)) }
+{
+    let Some(batch) = open_batch else {
+        return 0;
+    };
+    if slots <= u64::from(batch.left()) && !sends_batch(call) {
+        batch.pack(call, pieces, memory, slots);
+        return 0;
+    }
+    let Some(batch) = open_batch.take() else {
+        return 0;
+    };
+    let (batch, sent) = put_off_and_submit(rt, rail, batch, call, pieces, memory, slots);
+    *open_batch = Some(batch);
+    sent
 }
 
 /// Carries a call out at once, all submitted batches being carried out before it.

@@ -1,59 +1,64 @@
-use Rattle.std.proofs.Common.{[], ◌∷◌, ◌++◌, List, length, refl, ap, sym, subst, ◌∙◌}
-use Rattle.batch_pack.specs.Spelling.{Spelled}
-use Rattle.batch_pack.specs.Batch.{BatchView, captured}
-use Rattle.client_shadow.specs.Cutting.{batch_unless_empty}
+use Rattle.std.proofs.Common.{◌<◌, ◌≤◌, [], ◌∷◌, ◌++◌, List, length, ap, sym, subst, ◌∙◌, arith}
+use Rattle.batch_pack.specs.Spelling.{Spelled, slots_of}
+use Rattle.batch_pack.specs.Batch.{captured, slots_left}
 use Rattle.client_shadow.proofs.Batching.{cut_before-fits, cut_before-full, joined-full}
 use Rattle.batch_rail.specs.Run.{RunsFrom}
 use Rattle.batch_rail.proofs.Runs.{RunsFrom-append}
 use Rattle.batch_rail.proofs.Journals.{Gains-none, Gains-along}
-use Rattle.gl_front.proofs.Cuttings.{packed_behind, packed_alone, not_below}
+use Rattle.gl_front.proofs.Cuttings.{packed_behind, packed_alone, fits_emptied}
 use Rattle.gl_front.proofs.Failures.{FailsOnlyBy-along}
 use Rattle.gl_front.proofs.steps.put_behind.Goals as goal
 
-pub returns-in-Ok-clause-calls : goal.returns-in-Ok-clause-calls
-returns-in-Ok-clause-calls g c =
-    packed_behind c.args.batch c.try_pack.new.self (captured c.args.call.now c.args.pieces.now c.args.memory.now) c.in-Ok.ensures.ok (not_below _ _ c.in-Ok.ensures.full.1)
+pub returns-then-slots-from-clause-calls : goal.returns-then-slots-from-clause-calls
+returns-then-slots-from-clause-calls g c =
+    let fits : slots_of (captured c.args.call.now c.args.pieces.now c.args.memory.now) ≤ slots_left c.args.batch = omega arith in
+    packed_behind c.args.batch c.pack.new.self (captured c.args.call.now c.args.pieces.now c.args.memory.now) c.pack.ensures fits
 
-pub returns-in-Ok-clause-count : goal.returns-in-Ok-clause-count
-returns-in-Ok-clause-count g c =
-    ap length (sym (cut_before-fits c.args.batch.size c.args.batch.calls (captured c.args.call.now c.args.pieces.now c.args.memory.now) (not_below _ _ c.in-Ok.ensures.full.1)))
+pub returns-then-slots-from-clause-count : goal.returns-then-slots-from-clause-count
+returns-then-slots-from-clause-count g c =
+    let fits : slots_of (captured c.args.call.now c.args.pieces.now c.args.memory.now) ≤ slots_left c.args.batch = omega arith in
+    ap length (sym (cut_before-fits c.args.batch.size c.args.batch.calls (captured c.args.call.now c.args.pieces.now c.args.memory.now) fits))
 
-pub returns-in-Ok-clause-journal : goal.returns-in-Ok-clause-journal
-returns-in-Ok-clause-journal g c =
-    Gains-none _ _ (cut_before-fits c.args.batch.size c.args.batch.calls (captured c.args.call.now c.args.pieces.now c.args.memory.now) (not_below _ _ c.in-Ok.ensures.full.1))
+pub returns-then-slots-from-clause-journal : goal.returns-then-slots-from-clause-journal
+returns-then-slots-from-clause-journal g c =
+    let fits : slots_of (captured c.args.call.now c.args.pieces.now c.args.memory.now) ≤ slots_left c.args.batch = omega arith in
+    Gains-none _ _ (cut_before-fits c.args.batch.size c.args.batch.calls (captured c.args.call.now c.args.pieces.now c.args.memory.now) fits)
 
-pub returns-in-Err-clause-calls : goal.returns-in-Err-clause-calls
-returns-in-Err-clause-calls g c =
-    let alone = packed_alone c.args.batch c.try_pack.new.self c.submit_unless_empty-batch.result.0 c.try_pack-packed.new.self (captured c.args.call.now c.args.pieces.now c.args.memory.now) c.requires.fits c.in-Err.ensures.err c.submit_unless_empty-batch.ensures.empty c.try_pack-packed.result c.try_pack-packed.ensures.ok c.try_pack-packed.ensures.full.0 in
-    let joins = ap (λ (l : List Spelled). l ++ (captured c.args.call.now c.args.pieces.now c.args.memory.now) ∷ []) (sym (joined-full c.args.batch.size c.args.batch.calls (captured c.args.call.now c.args.pieces.now c.args.memory.now) (c.in-Err.ensures.full.0 refl))) in
-    alone ∙ joins
+pub pack-requires-2-clause-fits : goal.pack-requires-2-clause-fits
+pack-requires-2-clause-fits g c =
+    fits_emptied c.args.batch.size c.args.slots c.submit_unless_empty-next.result.0 (captured c.args.call.now c.args.pieces.now c.args.memory.now) c.submit_unless_empty-next.ensures.empty c.requires.slots c.requires.fits
 
-pub returns-in-Err-clause-count : goal.returns-in-Err-clause-count
-returns-in-Err-clause-count g c =
-    let same = ap (λ (b : BatchView). length (batch_unless_empty b.calls)) c.in-Err.ensures.err in
-    let cut = ap length (sym (cut_before-full c.args.batch.size c.args.batch.calls (captured c.args.call.now c.args.pieces.now c.args.memory.now) (c.in-Err.ensures.full.0 refl))) in
-    c.submit_unless_empty-batch.ensures.count ∙ same ∙ cut
+pub returns-clause-calls : goal.returns-clause-calls
+returns-clause-calls g c =
+    let full : slots_left c.args.batch < slots_of (captured c.args.call.now c.args.pieces.now c.args.memory.now) = omega arith in
+    packed_alone c.args.batch.size c.submit_unless_empty-next.result.0 c.pack-2.new.self (captured c.args.call.now c.args.pieces.now c.args.memory.now) c.submit_unless_empty-next.ensures.empty c.pack-2.ensures
+    ∙ ap (λ (l : List Spelled). l ++ (captured c.args.call.now c.args.pieces.now c.args.memory.now) ∷ []) (sym (joined-full c.args.batch.size c.args.batch.calls (captured c.args.call.now c.args.pieces.now c.args.memory.now) full))
 
-pub returns-in-Err-clause-stands : goal.returns-in-Err-clause-stands
-returns-in-Err-clause-stands g c =
+pub returns-clause-count : goal.returns-clause-count
+returns-clause-count g c =
+    let full : slots_left c.args.batch < slots_of (captured c.args.call.now c.args.pieces.now c.args.memory.now) = omega arith in
+    c.submit_unless_empty-next.ensures.count ∙ ap length (sym (cut_before-full c.args.batch.size c.args.batch.calls (captured c.args.call.now c.args.pieces.now c.args.memory.now) full))
+
+pub returns-clause-stands : goal.returns-clause-stands
+returns-clause-stands g c =
     λ st2 runs.
-    let alone = packed_alone c.args.batch c.try_pack.new.self c.submit_unless_empty-batch.result.0 c.try_pack-packed.new.self (captured c.args.call.now c.args.pieces.now c.args.memory.now) c.requires.fits c.in-Err.ensures.err c.submit_unless_empty-batch.ensures.empty c.try_pack-packed.result c.try_pack-packed.ensures.ok c.try_pack-packed.ensures.full.0 in
-    RunsFrom-append g.D.Machine.steps (g.R.RailState.stands c.args.rail.now) (g.R.RailState.stands c.submit_unless_empty-batch.new.rail) c.args.batch.calls ((captured c.args.call.now c.args.pieces.now c.args.memory.now) ∷ []) st2
-    (λ st may. subst (λ (b : BatchView). RunsFrom (g.R.RailState.stands c.args.rail.now) g.D.Machine.steps b.calls st) c.in-Err.ensures.err (c.submit_unless_empty-batch.ensures.stands st may))
-    (subst (λ (l : List Spelled). RunsFrom (g.R.RailState.stands c.submit_unless_empty-batch.new.rail) g.D.Machine.steps l st2) alone runs)
+    let alone = packed_alone c.args.batch.size c.submit_unless_empty-next.result.0 c.pack-2.new.self (captured c.args.call.now c.args.pieces.now c.args.memory.now) c.submit_unless_empty-next.ensures.empty c.pack-2.ensures in
+    RunsFrom-append g.D.Machine.steps (g.R.RailState.stands c.args.rail.now) (g.R.RailState.stands c.submit_unless_empty-next.new.rail) c.args.batch.calls ((captured c.args.call.now c.args.pieces.now c.args.memory.now) ∷ []) st2
+    c.submit_unless_empty-next.ensures.stands
+    (subst (λ (l : List Spelled). RunsFrom (g.R.RailState.stands c.submit_unless_empty-next.new.rail) g.D.Machine.steps l st2) alone runs)
 
-pub returns-in-Err-clause-failed : goal.returns-in-Err-clause-failed
-returns-in-Err-clause-failed g c =
-    let same = ap (λ (b : BatchView). batch_unless_empty b.calls) c.in-Err.ensures.err in
-    FailsOnlyBy-along _ _ _ _ (same ∙ sym (cut_before-full c.args.batch.size c.args.batch.calls (captured c.args.call.now c.args.pieces.now c.args.memory.now) (c.in-Err.ensures.full.0 refl))) c.submit_unless_empty-batch.ensures.failed
+pub returns-clause-failed : goal.returns-clause-failed
+returns-clause-failed g c =
+    let full : slots_left c.args.batch < slots_of (captured c.args.call.now c.args.pieces.now c.args.memory.now) = omega arith in
+    FailsOnlyBy-along _ _ _ _ (sym (cut_before-full c.args.batch.size c.args.batch.calls (captured c.args.call.now c.args.pieces.now c.args.memory.now) full)) c.submit_unless_empty-next.ensures.failed
 
-pub returns-in-Err-clause-journal : goal.returns-in-Err-clause-journal
-returns-in-Err-clause-journal g c =
-    let same = ap (λ (b : BatchView). batch_unless_empty b.calls) c.in-Err.ensures.err in
-    Gains-along _ _ _ _ (same ∙ sym (cut_before-full c.args.batch.size c.args.batch.calls (captured c.args.call.now c.args.pieces.now c.args.memory.now) (c.in-Err.ensures.full.0 refl))) c.submit_unless_empty-batch.ensures.journal
+pub returns-clause-journal : goal.returns-clause-journal
+returns-clause-journal g c =
+    let full : slots_left c.args.batch < slots_of (captured c.args.call.now c.args.pieces.now c.args.memory.now) = omega arith in
+    Gains-along _ _ _ _ (sym (cut_before-full c.args.batch.size c.args.batch.calls (captured c.args.call.now c.args.pieces.now c.args.memory.now) full)) c.submit_unless_empty-next.ensures.journal
 
-pub returns-in-Err-clause-kept : goal.returns-in-Err-clause-kept
-returns-in-Err-clause-kept g c =
+pub returns-clause-kept : goal.returns-clause-kept
+returns-clause-kept g c =
     λ none.
-    let same = ap (λ (b : BatchView). batch_unless_empty b.calls) c.in-Err.ensures.err in
-    c.submit_unless_empty-batch.ensures.kept (same ∙ sym (cut_before-full c.args.batch.size c.args.batch.calls (captured c.args.call.now c.args.pieces.now c.args.memory.now) (c.in-Err.ensures.full.0 refl)) ∙ none)
+    let full : slots_left c.args.batch < slots_of (captured c.args.call.now c.args.pieces.now c.args.memory.now) = omega arith in
+    c.submit_unless_empty-next.ensures.kept (sym (cut_before-full c.args.batch.size c.args.batch.calls (captured c.args.call.now c.args.pieces.now c.args.memory.now) full) ∙ none)

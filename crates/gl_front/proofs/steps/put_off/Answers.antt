@@ -1,38 +1,32 @@
-use Rattle.std.proofs.Common.{◌∙◌, arith}
-use Rattle.batch_pack.specs.Batch.{captured}
-use Rattle.batch_rail.proofs.Journals.{Gains-along, Gains-then}
-use Rattle.gl_front.proofs.Cuttings.{ended_by-behind, open_by-behind, length-ended_by, none_first, none_second}
-use Rattle.gl_front.proofs.Failures.{FailsOnlyBy-along, FailsOnlyBy-then}
+use Rattle.std.proofs.Common.{◌≡◌, ◌≤◌, false, [], ◌∷◌, ◌++◌, List, length, ap, sym, ◌∙◌, arith}
+use Rattle.batch_pack.specs.Spelling.{Spelled, slots_of}
+use Rattle.batch_pack.specs.Batch.{BatchView, captured, slots_left}
+use Rattle.batch_rail.proofs.Journals.{Gains-none}
+use Rattle.client_shadow.specs.Flush.{is_flush}
+use Rattle.gl_front.specs.FrontState.{open_calls}
+use Rattle.gl_front.proofs.Captures.{batch_calls, batch_left}
+use Rattle.gl_front.proofs.Cuttings.{ended_by-joins, open_by-joins}
 use Rattle.gl_front.proofs.steps.put_off.Goals as goal
 
-pub returns-clause-calls : goal.returns-clause-calls
-returns-clause-calls g c =
-    c.submit_if_sent-batch.ensures.calls
-    ∙ open_by-behind c.args.batch.size c.args.batch.calls (captured c.args.call.now c.args.pieces.now c.args.memory.now) c.put_behind-batch.result.0.calls c.put_behind-batch.ensures.calls
+pub returns-then-not-sends_batch-clause-calls : goal.returns-then-not-sends_batch-clause-calls
+returns-then-not-sends_batch-clause-calls g c =
+    let left = batch_left c.args.open_batch.now c.in-Some.batch c.in-Some.is (g.R.RailState.size c.args.rail.now) c.requires.ready.is_there in
+    let fits : slots_of (captured c.args.call.now c.args.pieces.now c.args.memory.now) ≤ slots_left (record { size = g.R.RailState.size c.args.rail.now; calls = open_calls c.args.open_batch.now }) = omega (arith, left) in
+    let flush : is_flush c.args.call.now ≡ false = cc in
+    ap (λ (b : BatchView). b.calls) c.pack.ensures
+    ∙ ap (λ (l : List Spelled). l ++ (captured c.args.call.now c.args.pieces.now c.args.memory.now) ∷ []) (batch_calls c.args.open_batch.now c.in-Some.batch c.in-Some.is)
+    ∙ sym (open_by-joins (g.R.RailState.size c.args.rail.now) (open_calls c.args.open_batch.now) (captured c.args.call.now c.args.pieces.now c.args.memory.now) fits flush)
 
-pub returns-clause-count : goal.returns-clause-count
-returns-clause-count g c =
-    omega (
-      arith,
-      c.put_behind-batch.ensures.count,
-      c.submit_if_sent-batch.ensures.count,
-      length-ended_by c.args.batch.size c.args.batch.calls (captured c.args.call.now c.args.pieces.now c.args.memory.now) c.put_behind-batch.result.0.calls c.put_behind-batch.ensures.calls,
-    )
+pub returns-then-not-sends_batch-clause-count : goal.returns-then-not-sends_batch-clause-count
+returns-then-not-sends_batch-clause-count g c =
+    let left = batch_left c.args.open_batch.now c.in-Some.batch c.in-Some.is (g.R.RailState.size c.args.rail.now) c.requires.ready.is_there in
+    let fits : slots_of (captured c.args.call.now c.args.pieces.now c.args.memory.now) ≤ slots_left (record { size = g.R.RailState.size c.args.rail.now; calls = open_calls c.args.open_batch.now }) = omega (arith, left) in
+    let flush : is_flush c.args.call.now ≡ false = cc in
+    ap length (sym (ended_by-joins (g.R.RailState.size c.args.rail.now) (open_calls c.args.open_batch.now) (captured c.args.call.now c.args.pieces.now c.args.memory.now) fits flush))
 
-pub returns-clause-failed : goal.returns-clause-failed
-returns-clause-failed g c =
-    FailsOnlyBy-along _ _ _ _
-    (ended_by-behind c.args.batch.size c.args.batch.calls (captured c.args.call.now c.args.pieces.now c.args.memory.now) c.put_behind-batch.result.0.calls c.put_behind-batch.ensures.calls)
-    (FailsOnlyBy-then _ _ _ _ _ c.put_behind-batch.ensures.failed c.submit_if_sent-batch.ensures.failed)
-
-pub returns-clause-journal : goal.returns-clause-journal
-returns-clause-journal g c =
-    Gains-along _ _ _ _
-    (ended_by-behind c.args.batch.size c.args.batch.calls (captured c.args.call.now c.args.pieces.now c.args.memory.now) c.put_behind-batch.result.0.calls c.put_behind-batch.ensures.calls)
-    (Gains-then _ _ _ _ _ c.put_behind-batch.ensures.journal c.submit_if_sent-batch.ensures.journal)
-
-pub returns-clause-kept : goal.returns-clause-kept
-returns-clause-kept g c =
-    λ none.
-    let both = ended_by-behind c.args.batch.size c.args.batch.calls (captured c.args.call.now c.args.pieces.now c.args.memory.now) c.put_behind-batch.result.0.calls c.put_behind-batch.ensures.calls ∙ none in
-    c.submit_if_sent-batch.ensures.kept (none_second _ _ both) ∙ c.put_behind-batch.ensures.kept (none_first _ _ both)
+pub returns-then-not-sends_batch-clause-journal : goal.returns-then-not-sends_batch-clause-journal
+returns-then-not-sends_batch-clause-journal g c =
+    let left = batch_left c.args.open_batch.now c.in-Some.batch c.in-Some.is (g.R.RailState.size c.args.rail.now) c.requires.ready.is_there in
+    let fits : slots_of (captured c.args.call.now c.args.pieces.now c.args.memory.now) ≤ slots_left (record { size = g.R.RailState.size c.args.rail.now; calls = open_calls c.args.open_batch.now }) = omega (arith, left) in
+    let flush : is_flush c.args.call.now ≡ false = cc in
+    Gains-none _ _ (ended_by-joins (g.R.RailState.size c.args.rail.now) (open_calls c.args.open_batch.now) (captured c.args.call.now c.args.pieces.now c.args.memory.now) fits flush)

@@ -10,6 +10,14 @@ use Rattle.gl_front.proofs.Fronts.{carries_with_none, knows_on}
 use Rattle.gl_front.proofs.Takings.{takes-sync, waits-sync}
 use Rattle.gl_front.proofs.front.Front.synchronise.Goals as goal
 
+pub take_reply-requires-clause-silent : goal.take_reply-requires-clause-silent
+take_reply-requires-clause-silent g c =
+    λ unanswered.
+    let same : c.self-2.inside.memory ≡ c.self.inside.memory = ap (λ (f : FrontView g.row.R.Denot). f.memory) c.self-2.view_is ∙ c.flush.ensures.flushed.ends.memory ∙ sym (ap (λ (f : FrontView g.row.R.Denot). f.memory) c.self.view_is) in
+    let bytes = subst (λ (bytes : List ℕ). AreBytes (memory_of bytes)) (sym same) c.bytes.ensures.small in
+    let replies = rw c.in-Ok.is at c.carry_out-carried.ensures.replied in
+    g.D.Machine.laws.replies (replies.0) c.args.call.now (memory_of c.self-2.inside.memory) (replies.1) (replied c.in-Ok.reply) c.requires.in_range bytes unanswered (replies.3)
+
 pub returns-in-Ok-clause-ok : goal.returns-in-Ok-clause-ok
 returns-in-Ok-clause-ok g c =
     let flushes = rw (← c.self-2.view_is) at c.flush.ensures.flushed in
