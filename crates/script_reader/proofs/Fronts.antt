@@ -90,7 +90,7 @@ arguments_done front kinds i words all past whole =
     sym (arguments_of-end front words) ∙ ap (λ (ks : List ArgKind). behind front (arguments_of ks words)) (sym (drop_all i kinds past)) ∙ whole
 
 -- what is judged of the arguments of a call
-by_truth : {P : Type 0} (b : Bool) → (b ≡ true → P) → (b ≡ false → P) → P
+pub by_truth : {P : Type 0} (b : Bool) → (b ≡ true → P) → (b ≡ false → P) → P
 by_truth true if_true if_false = if_true refl
 by_truth false if_true if_false = if_false refl
 

@@ -17,7 +17,7 @@ use crate::number::{argument_from, is_between, number_from};
 use crate::numbers::{Numbers, numbers_from};
 use crate::told::{Asked, Told};
 use crate::words::{count_words, next_word};
-use gl_words::{ArgKind, Shape, call_from, shape_of_name};
+use gl_words::{ArgKind, Shape, shape_of_name};
 use std::str::from_utf8;
 
 /// The largest place in memory; own.
@@ -165,7 +165,9 @@ fn judge_call(
     ensures { result ≡ judged_call before context shape.id shape.kinds.now (words_of rest.now) }
 {
     let numbers = arguments_from(shape.kinds, rest)?;
-    let call = call_from(shape.id, numbers.as_slice()).ok_or(ScriptFault::OutOfRange)?;
+    let call = shape
+        .call(numbers.as_slice())
+        .ok_or(ScriptFault::OutOfRange)?;
     body_in(before, context, Asked::Gl(call))
 }
 

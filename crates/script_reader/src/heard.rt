@@ -1,10 +1,13 @@
 //! What the lines so far have said, as far as it is kept.
 
 ghost use Rattle.std.specs.Prelude.{◌≡◌, ℕ, ◌+◌, ◌^◌, ◌<◌, ◌≤◌, List, [], ◌∷◌, ◌++◌, length, OnOk, OnErr, IfErr};
+ghost use Rattle.std.specs.List.{list_all};
 ghost use Rattle.script_reader.specs.declared.before.Said.{Said};
 ghost use Rattle.script_reader.specs.declared.error.ReadRefusal.TheVariants.{NoMemory};
 ghost use Rattle.script_reader.specs.Grammar.{contexts_in, lines_said, says_something, is_context, is_body, is_end};
+ghost use Rattle.script_reader.specs.Cutting.{text_of};
 ghost use Rattle.script_reader.specs.ImageBytes.{said_bytes};
+ghost use Rattle.script_reader.specs.Judged.{is_text_byte};
 ghost use Rattle.script_reader.specs.Heard.{IsHeard, HearsLine, RefusesLine, after};
 
 use crate::before::{Before, Said};
@@ -42,13 +45,15 @@ pub(crate) fn nothing_heard(alloc: Global) -> Heard
     }
 }
 
-/// Takes the next line, which begins after this many bytes, with its line end.
+/// Takes the next line, which begins after this many bytes, with its line end, where it is known whether it is text.
 pub(crate) fn hear_line(
     heard: &mut Heard,
     alloc: Global,
     at: usize,
     line: &[u8],
+    is_text: bool,
 ) -> Result<(), ReadRefusal>
+    requires text { is_text ≡ list_all is_text_byte (text_of line.now) }
     requires place { at + length line.now < 2 ^ 64 }
     requires few { heard.old.before.contexts ≤ heard.old.before.lines }
     requires lines { heard.old.before.lines ≤ 262144 }
@@ -57,7 +62,7 @@ pub(crate) fn hear_line(
     ensures lines { OnOk result (heard.new.before.lines ≤ 262144) }
     ensures err { IfErr result (RefusesLine heard.old at line.now) }
 {
-    match judge_within(at, heard.before, line) {
+    match judge_within(at, heard.before, line, is_text) {
         Ok(said) => hear(heard, alloc, said),
         Err(fault) => Err(ReadRefusal::Bad(ScriptError {
             line: heard.before.lines + 1,

@@ -15,8 +15,6 @@ mod number;
 mod numbers;
 mod reader;
 mod script;
-#[cfg(test)]
-mod tests;
 mod told;
 mod words;
 

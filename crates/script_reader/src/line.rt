@@ -3,7 +3,7 @@
 
 ghost use Rattle.std.specs.Prelude.{◌≡◌, ℕ, ◌+◌, ◌^◌, ◌<◌, ◌≤◌, List, [], ◌∷◌, length, IfOk, OnOk, Ok, if◌then◌else◌};
 ghost use Rattle.std.specs.List.{list_all};
-ghost use Rattle.script_reader.specs.Cutting.{words_of};
+ghost use Rattle.script_reader.specs.Cutting.{text_of, words_of};
 ghost use Rattle.script_reader.specs.ImageBytes.{said_bytes};
 ghost use Rattle.script_reader.specs.Judged.{judged_header, context_of, judged_context, judged_end, judged_other, judged_counting, judged_words, is_comment, is_text_byte, judged, judged_within, within_image_bytes};
 ghost use Rattle.script_reader.specs.declared.before.Said.TheVariants.{Nothing};
@@ -27,10 +27,16 @@ const LINES: u32 = 262_144;
 /// The most bytes that the images of a script take; own.
 const IMAGE_BYTES: u64 = 67_108_864;
 
-/// Judges a line that begins after this many bytes, with its line end.
+/// Judges a line that begins after this many bytes, with its line end, where it is known whether it is text.
 #[tactic(auto, unfolding(crate::specs::Judged::judged_within))]
-pub(crate) fn judge_within(at: usize, before: Before, line: &[u8]) -> Result<Said<'_>, ScriptFault>
-    requires { at + length line.now < 2 ^ 64 }
+pub(crate) fn judge_within(
+    at: usize,
+    before: Before,
+    line: &[u8],
+    is_text: bool,
+) -> Result<Said<'_>, ScriptFault>
+    requires place { at + length line.now < 2 ^ 64 }
+    requires text { is_text ≡ list_all is_text_byte (text_of line.now) }
     ensures gives { result ≡ judged_within at before line.now }
     ensures few { OnOk result (before.lines < 262144) }
     ensures images { IfOk result (λ said. before.image_bytes + said_bytes said ≤ 67108864) }
@@ -41,7 +47,7 @@ pub(crate) fn judge_within(at: usize, before: Before, line: &[u8]) -> Result<Sai
     if LINES <= before.lines {
         return Err(ScriptFault::TooMany(Limit::Lines));
     }
-    match judge(before, text_in(line)) {
+    match judge(before, text_in(line), is_text) {
         Ok(said) => within_image_bytes(before, said),
         Err(fault) => Err(fault),
     }
@@ -72,23 +78,17 @@ pub(crate) fn image_bytes_said(said: &Said<'_>) -> u64
 }
 
 #[tactic(auto, unfolding(crate::specs::Judged::judged))]
-fn judge(before: Before, text: &[u8]) -> Result<Said<'_>, ScriptFault>
-    requires { before.lines < 262144 }
+fn judge(before: Before, text: &[u8], is_text: bool) -> Result<Said<'_>, ScriptFault>
+    requires lines { before.lines < 262144 }
+    requires text { is_text ≡ list_all is_text_byte text.now }
     ensures gives { result ≡ judged before text.now }
     ensures small { IfOk result (λ said. said_bytes said ≤ 196608) }
 {
-    if is_text(text) {
+    if is_text {
         judge_words(before, text)
     } else {
         Err(ScriptFault::NotText)
     }
-}
-
-fn is_text(text: &[u8]) -> bool
-    ensures { result ≡ list_all is_text_byte text.now }
-{
-    text.iter()
-        .all(|byte| *byte == b'\t' || (b' ' <= *byte && *byte <= b'~'))
 }
 
 #[tactic(auto, unfolding(crate::specs::Judged::judged_words))]

@@ -1,6 +1,6 @@
 //! Words as numbers. Whether a number is in its range is asked in `line.rt` and `body.rt`.
 
-ghost use Rattle.std.specs.Prelude.{◌≡◌, ℕ, ◌+◌, ◌-◌, ◌*◌, ◌^◌, ◌<◌, ◌≤◌, pos, neg_ℤ, int_le, ◌&&◌, length, IfSome, IsTrue};
+ghost use Rattle.std.specs.Prelude.{◌≡◌, ℕ, ◌+◌, ◌-◌, ◌*◌, ◌^◌, ◌<◌, ◌≤◌, pos, neg_ℤ, int_le, ◌&&◌, length, Some, None, if◌then◌else◌, IfSome, IsTrue};
 ghost use Rattle.std.specs.Option.{option_map};
 ghost use Rattle.std.specs.List.{list_all};
 ghost use Rattle.std.specs.Char.{is_ascii_digit, is_ascii_hexdigit};
@@ -16,30 +16,28 @@ pub fn decimal_from(word: &[u8]) -> Option<u64>
     ensures gives { result ≡ decimal_of word.now }
     ensures small { IfSome result (λ number. number < 10 ^ 10) }
 {
-    if !word.is_empty() && word.len() <= 10 && all_decimal(word) {
-        Some(decimal_number(word))
+    if !word.is_empty() && word.len() <= 10 {
+        decimal_number(word)
     } else {
         None
     }
 }
 
-fn all_decimal(word: &[u8]) -> bool
-    ensures { result ≡ list_all is_ascii_digit word.now }
-{
-    word.iter().all(|digit| digit.is_ascii_digit())
-}
-
-fn decimal_number(word: &[u8]) -> u64
-    requires few { length word.now ≤ 10 }
-    requires digits { IsTrue (list_all is_ascii_digit word.now) }
-    ensures gives { result ≡ decimal_value word.now }
-    ensures small { result < 10 ^ 10 }
+/// The number that digits spell, at most ten of them. None where a byte is no digit. Each byte is looked at once.
+fn decimal_number(word: &[u8]) -> Option<u64>
+    requires { length word.now ≤ 10 }
+    ensures gives { result ≡ if list_all is_ascii_digit word.now
+        then Some (decimal_value word.now) else None }
+    ensures small { IfSome result (λ number. number < 10 ^ 10) }
 {
     let mut number = 0;
     for digit in word {
+        if !digit.is_ascii_digit() {
+            return None;
+        }
         number = 10 * number + u64::from(*digit - b'0');
     }
-    number
+    Some(number)
 }
 
 /// The number that hexadecimal digits of either case spell, at most eight of them.

@@ -36,8 +36,8 @@ fn read_all(alloc: Global, bytes: &[u8]) -> Result<Script, ReadRefusal>
     let mut at = 0;
     let mut rest = bytes;
     while !rest.is_empty() {
-        let (line, after) = first_line(rest);
-        match hear_line(&mut heard, alloc, at, line) {
+        let (line, after, is_text) = first_line(rest);
+        match hear_line(&mut heard, alloc, at, line, is_text) {
             Ok(()) => {}
             Err(refusal) => return Err(refusal),
         }

@@ -1,7 +1,7 @@
 -- each word adds its number
 use Rattle.std.proofs.lemmas.Int.{to_z-of_z}
-use Rattle.std.proofs.Common.{◌≡◌, ◌∙◌, ℕ, List, [], ◌∷◌, ◌++◌, ℤ, FitsSigned, w64, ap, sym, drop, get_or, ◌+◌, length, length-append, arith, rules, Some, None, Option, Err, ◌≢◌}
-use Rattle.script_reader.specs.Judged.{arguments_of, value_of, judged_arguments}
+use Rattle.std.proofs.Common.{◌≡◌, ◌∙◌, List, [], ◌∷◌, ◌++◌, ℤ, FitsSigned, w64, ap, drop, get_or, ◌+◌, length, length-append, arith, rules, Some, Err}
+use Rattle.script_reader.specs.Judged.{arguments_of, value_of}
 use Rattle.gl_words.specs.declared.shape.ArgKind.TheVariants.{Enum}
 use Rattle.script_reader.specs.Cutting.{words_of}
 use Rattle.script_reader.proofs.Fronts.{behind, arguments_stop, arguments_step, arguments_done, judged_arguments-wrong, judged_arguments-read, judged_arguments-behind}

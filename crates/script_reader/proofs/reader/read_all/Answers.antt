@@ -9,7 +9,7 @@ loop-rest-init c = record { place = omega arith; few = omega arith; lines = omeg
 pub returns-in-Err : goal.returns-in-Err
 returns-in-Err c =
     let heard = c.loop-rest.invariant.heard in
-    lines_stop c.loop-rest.at (heard.0) c.loop-rest.rest.now c.first_line.result.0.now c.first_line.result.1.now c.args.bytes.now c.in-Err.refusal c.first_line.ensures.first (c.in-Err.ensures.err (heard.0) (heard.1)) (heard.2)
+    lines_stop c.loop-rest.at (heard.0) c.loop-rest.rest.now c.first_line-is_text.result.0.now c.first_line-is_text.result.1.now c.args.bytes.now c.in-Err.refusal c.first_line-is_text.ensures.first (c.in-Err.ensures.err (heard.0) (heard.1)) (heard.2)
 
 pub loop-rest-preserved : goal.loop-rest-preserved
 loop-rest-preserved c =
@@ -19,7 +19,7 @@ loop-rest-preserved c =
       place = omega arith;
       few = search rules;
       lines = search rules;
-      heard = (heard.0 ++ next.0 ∷ [], next.2, lines_go_on c.loop-rest.at (heard.0) c.loop-rest.rest.now c.first_line.result.0.now c.first_line.result.1.now (next.0) _ c.first_line.ensures.first (next.1) (heard.2));
+      heard = (heard.0 ++ next.0 ∷ [], next.2, lines_go_on c.loop-rest.at (heard.0) c.loop-rest.rest.now c.first_line-is_text.result.0.now c.first_line-is_text.result.1.now (next.0) _ c.first_line-is_text.ensures.first (next.1) (heard.2));
     }
 
 pub returns-then-heard : goal.returns-then-heard
