@@ -1,6 +1,7 @@
 -- Lines run one after another, and where memory was wanting.
-use Rattle.std.proofs.Common.{◌≡◌, ◌⊎◌, inl, inr, Bool, true, false, ℕ, ◌+◌, List, [], ◌∷◌, ◌++◌, map, refl, sym, ap, subst, ◌∙◌, append_assoc, Option, Result, Ok, Err, OnOk, OnErr}
+use Rattle.std.proofs.Common.{◌≡◌, inl, inr, Bool, true, false, ℕ, List, [], ◌∷◌, ◌++◌, map, refl, sym, ap, subst, ◌∙◌, append_assoc, Option, Result, Ok, Err, OnOk, OnErr}
 use Rattle.std.proofs.lemmas.List.{append-nil, map-append}
+use Rattle.gl_words.specs.Call.{is_answering}
 use Rattle.gl_words.specs.declared.call.Call.{Call}
 use Rattle.gl_memory.specs.ClientMemory.{written}
 use Rattle.gl_memory.specs.Room.{RoomView}
@@ -18,7 +19,7 @@ use Rattle.script_reader.specs.declared.script.Line.{Line}
 use Rattle.replay_lines.specs.Lines.{Ran, Standing, after_act, after_lines, told_at, told_by_lines, StepsAt, StepsThrough}
 use Rattle.replay_lines.specs.Moments.{Moment, moments_at, moments_by, issued_in, issued_by_lines}
 use Rattle.replay_lines.specs.Results.{DoneView, Shown, Picture, told_of, taken_bytes}
-use Rattle.replay_lines.specs.Running.{CountsOn, TellsOn, RunsOn, RefusesNext, StopsOn, standing_of}
+use Rattle.replay_lines.specs.Running.{CountsOn, TellsOn, RunsOn, StopsAt, StopsOn, standing_of}
 use Rattle.replay_lines.proofs.Countings.{CountsOn-nil, CountsOn-one, CountsOn-then, TellsOn-nil, TellsOn-one, TellsOn-then}
 use Rattle.replay_lines.proofs.LinesLemmas.{after_lines-append, after_lines-one, after_lines-nil, told_by_lines-append, told_by_lines-one, told_by_lines-nil, moments_by-append, moments_by-one, moments_by-nil, StepsThrough-append, StepsThrough-one, StepsThrough-nil}
 
@@ -26,6 +27,11 @@ use Rattle.replay_lines.proofs.LinesLemmas.{after_lines-append, after_lines-one,
 pub OnErr-always : {T E P : Type 0} (result : Result T E) → P → OnErr result P
 OnErr-always (Ok value) p = tt
 OnErr-always (Err refusal) p = p
+
+-- what two facts on Err give
+pub on_err_known : {T E P Q X : Type 0} (result : Result T E) → (P → Q → X) → OnErr result P → OnErr result Q → OnErr result X
+on_err_known (Ok value) gives p q = tt
+on_err_known (Err refusal) gives p q = gives p q
 
 -- what was added or not is an addition
 pub added_or_not : {T E : Type 0} (result : Result T E) (old new more : List DoneView) → OnOk result (new ≡ old ++ more) → OnErr result (new ≡ old) → (added : List DoneView) × (new ≡ old ++ added)
@@ -171,73 +177,68 @@ module _ {R S : Type 0} (tracked : S → Tracked) (steps : Steps S) (stands : R 
       RunsOn-one line reply old new old_told new_told (subst (λ (act : Act). ActRuns line.number line.context reply old new old_told new_told act) (sym is_call) runs)
 
 module _ {R S : Type 0} (tracked : S → Tracked) (steps : Steps S) (stands : R → S → Type 0) (fails : R → Type 0) (journal : R → Option (List (List Spelled))) (sends : R → ℕ) where
-  -- nothing was done
-  pub StopsOn-still : (lines : List Line) (old : FrontView R) (told : List DoneView) → StopsOn tracked steps stands fails journal sends lines old old told told
-  StopsOn-still lines old told = record {
-    first = [];
-    left = lines;
+  -- a line by itself, which told nothing
+  pub StopsOn-one : (line : Line) (old new : FrontView R) (old_told new_told : List DoneView) → new_told ≡ old_told → StopsAt tracked steps stands fails journal sends old new line → StopsOn tracked steps stands fails journal sends (line ∷ []) old new old_told new_told
+  StopsOn-one line old new old_told new_told same stops = record {
+    before = [];
+    line = line;
+    behind = [];
     all = refl;
     mid = old;
-    untold = [];
-    runs = subst (λ (t : List DoneView). RunsOn tracked steps stands journal [] old old told t) (sym (append-nil told)) (RunsOn-nil tracked steps stands journal old told);
-    stops = inl refl;
+    runs = subst (λ (t : List DoneView). RunsOn tracked steps stands journal [] old old old_told t) (sym same) (RunsOn-nil tracked steps stands journal old old_told);
+    stops = stops;
   }
 
-  pub StopsOn-unchanged : (lines : List Line) (old : FrontView R) (old_told new_told : List DoneView) → new_told ≡ old_told → StopsOn tracked steps stands fails journal sends lines old old old_told new_told
-  StopsOn-unchanged lines old old_told new_told same = subst (λ (t : List DoneView). StopsOn tracked steps stands fails journal sends lines old old old_told t) (sym same) (StopsOn-still lines old old_told)
+  -- nothing was done
+  pub StopsOn-still : (line : Line) (old : FrontView R) (old_told new_told : List DoneView) → new_told ≡ old_told → StopsOn tracked steps stands fails journal sends (line ∷ []) old old old_told new_told
+  StopsOn-still line old old_told new_told same = StopsOn-one line old old old_told new_told same (inl refl)
 
   -- a call was refused
-  stops_by : (is_refused : Bool) (line : Line) (old new : FrontView R) (call : Call) → old.refused ≡ is_refused → line.act ≡ Gl call → RefusesCall stands fails journal sends steps old new call → (old.refused ≡ true → new ≡ old) → (new ≡ old) ⊎ RefusesNext stands fails journal sends steps (line ∷ []) old new
+  stops_by : (is_refused : Bool) (line : Line) (old new : FrontView R) (call : Call) → old.refused ≡ is_refused → line.act ≡ Gl call → RefusesCall stands fails journal sends steps old new call → (old.refused ≡ true → new ≡ old) → StopsAt tracked steps stands fails journal sends old new line
   stops_by true line old new call is is_call refuses idle = inl (idle is)
-  stops_by false line old new call is is_call refuses idle = inr (record { line = line; later = []; call = call; next = refl; act = is_call; refuses = refuses; ends = refuses.stops is })
+  stops_by false line old new call is is_call refuses idle = inr (inl (record { call = call; act = is_call; refuses = refuses; ends = refuses.stops is }))
 
   pub StopsOn-refused : (line : Line) (old new : FrontView R) (told : List DoneView) (call : Call) → line.act ≡ Gl call → RefusesCall stands fails journal sends steps old new call → (old.refused ≡ true → new ≡ old) → StopsOn tracked steps stands fails journal sends (line ∷ []) old new told told
-  StopsOn-refused line old new told call is_call refuses idle = record {
-    first = [];
-    left = line ∷ [];
-    all = refl;
-    mid = old;
-    untold = [];
-    runs = subst (λ (t : List DoneView). RunsOn tracked steps stands journal [] old old told t) (sym (append-nil told)) (RunsOn-nil tracked steps stands journal old told);
-    stops = stops_by old.refused line old new call refl is_call refuses idle;
-  }
+  StopsOn-refused line old new told call is_call refuses idle = StopsOn-one line old new told told refl (stops_by old.refused line old new call refl is_call refuses idle)
 
-  -- all lines were run, and what the last of them told wasn't added
-  pub StopsOn-untold : (lines : List Line) (old new : FrontView R) (old_told new_told untold : List DoneView) → RunsOn tracked steps stands journal lines old new old_told (new_told ++ untold) → StopsOn tracked steps stands fails journal sends lines old new old_told new_told
-  StopsOn-untold lines old new old_told new_told untold runs = record {
-    first = lines;
-    left = [];
-    all = sym (append-nil lines);
-    mid = new;
-    untold = untold;
-    runs = runs;
-    stops = inl refl;
-  }
+  -- a call was answered, and its answer wasn't added
+  pub StopsOn-untold : (line : Line) (call : Call) (reply : Replied) (old new : FrontView R) (old_told new_told : List DoneView)
+      → line.act ≡ Gl call
+      → KnowsTracked tracked stands steps old
+      → TakesCall stands fails journal sends steps old new call reply
+      → is_answering call ≡ true
+      → new_told ≡ old_told
+      → StopsOn tracked steps stands fails journal sends (line ∷ []) old new old_told new_told
+  StopsOn-untold line call reply old new old_told new_told is_call knows takes asks same =
+      let answer = told_of line.number line.context call reply in
+      StopsOn-one line old new old_told new_told same (inr (inr (record {
+        call = call;
+        act = is_call;
+        asks = asks;
+        answer = answer;
+        runs = RunsOn-call tracked steps stands journal fails sends line call reply old new [] answer is_call knows takes refl;
+      })))
 
   -- lines that were run, and then some at which memory was wanting
   pub StopsOn-then : (lines more : List Line) (old mid new : FrontView R) (old_told mid_told new_told : List DoneView) → RunsOn tracked steps stands journal lines old mid old_told mid_told → StopsOn tracked steps stands fails journal sends more mid new mid_told new_told → StopsOn tracked steps stands fails journal sends (lines ++ more) old new old_told new_told
   StopsOn-then lines more old mid new old_told mid_told new_told one two = record {
-    first = lines ++ two.first;
-    left = two.left;
-    all = ap (λ (l : List Line). lines ++ l) two.all ∙ sym (append_assoc lines two.first two.left);
+    before = lines ++ two.before;
+    line = two.line;
+    behind = two.behind;
+    all = ap (λ (l : List Line). lines ++ l) two.all ∙ sym (append_assoc lines two.before (two.line ∷ two.behind));
     mid = two.mid;
-    untold = two.untold;
-    runs = RunsOn-then tracked steps stands journal lines two.first old mid two.mid old_told mid_told (new_told ++ two.untold) one two.runs;
+    runs = RunsOn-then tracked steps stands journal lines two.before old mid two.mid old_told mid_told new_told one two.runs;
     stops = two.stops;
   }
 
   -- and others behind them
-  still_stops : (left more : List Line) (old new : FrontView R) → (new ≡ old) ⊎ RefusesNext stands fails journal sends steps left old new → (new ≡ old) ⊎ RefusesNext stands fails journal sends steps (left ++ more) old new
-  still_stops left more old new (inl same) = inl same
-  still_stops left more old new (inr refused) = inr (record { line = refused.line; later = refused.later ++ more; call = refused.call; next = ap (λ (l : List Line). l ++ more) refused.next; act = refused.act; refuses = refused.refuses; ends = refused.ends })
-
   pub StopsOn-before : (lines more : List Line) (old new : FrontView R) (old_told new_told : List DoneView) → StopsOn tracked steps stands fails journal sends lines old new old_told new_told → StopsOn tracked steps stands fails journal sends (lines ++ more) old new old_told new_told
   StopsOn-before lines more old new old_told new_told one = record {
-    first = one.first;
-    left = one.left ++ more;
-    all = ap (λ (l : List Line). l ++ more) one.all ∙ append_assoc one.first one.left more;
+    before = one.before;
+    line = one.line;
+    behind = one.behind ++ more;
+    all = ap (λ (l : List Line). l ++ more) one.all ∙ append_assoc one.before (one.line ∷ one.behind) more;
     mid = one.mid;
-    untold = one.untold;
     runs = one.runs;
-    stops = still_stops one.left more one.mid new one.stops;
+    stops = one.stops;
   }

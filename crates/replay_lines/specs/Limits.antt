@@ -5,6 +5,10 @@ use Rattle.script_reader.specs.declared.script.Act.{Act}
 use Rattle.script_reader.specs.declared.script.Act.TheVariants.{Mem, Image, Gl}
 use Rattle.script_reader.specs.declared.script.Line.{Line}
 
+-- the most lines of a script; own
+abbrev pub most_lines : ℕ
+most_lines = 262144
+
 -- the sides of an image are at most 256 pixels; own
 pub record AreShort (width height : ℕ) : Type 0 where
   pub few_columns : width ≤ 256

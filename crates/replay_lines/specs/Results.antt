@@ -7,6 +7,8 @@ use Rattle.gl_words.specs.declared.call.Call.{Call}
 use Rattle.gl_words.specs.declared.call.Call.TheVariants.{ReadPixels}
 use Rattle.driver_trait.specs.Reply.{Replied, Nothing, Numbers, Bytes}
 use Rattle.replay_lines.specs.declared.results.Done.{Done}
+use Rattle.replay_lines.specs.declared.results.Printed.{Printed}
+use Rattle.replay_lines.specs.declared.results.Printed.TheVariants as prints
 use Rattle.replay_lines.specs.declared.results.What.{What}
 use Rattle.replay_lines.specs.declared.results.What.TheVariants as whats
 
@@ -21,9 +23,15 @@ pub record DoneView : Type 0 where
   pub context : ℕ
   pub shown : Shown
 
--- what the code keeps of it, without the rooms of its lists; own
+-- the numbers that the code keeps to be printed, without the rooms of lists; own
+abbrev pub printed_by : Printed → List ℤ
+printed_by prints.Nothing = []
+printed_by (prints.One number) = number ∷ []
+printed_by (prints.Many numbers) = numbers.items
+
+-- what the code keeps of what a line told, without the rooms of its lists; own
 abbrev pub shown_by : What → Shown
-shown_by (whats.Answer call numbers) = Answer call numbers.items
+shown_by (whats.Answer call numbers) = Answer call (printed_by numbers)
 shown_by (whats.Image name width height bytes) = Picture name width height bytes.items
 
 -- a result of the code; own

@@ -1,5 +1,6 @@
 -- Lines that were run through a front: where they lead, and what was counted and handed over, whatever calls come later; own.
-use Rattle.std.specs.Prelude.{◌≡◌, ◌⊎◌, ℕ, ◌+◌, List, ◌∷◌, ◌++◌, length, map, Option}
+use Rattle.std.specs.Prelude.{◌≡◌, ◌⊎◌, ℕ, ◌+◌, true, List, [], ◌∷◌, ◌++◌, length, map, Option}
+use Rattle.gl_words.specs.Call.{is_answering}
 use Rattle.gl_words.specs.declared.call.Call.{Call}
 use Rattle.client_shadow.specs.Cutting.{Issued, batches_from, count_of}
 use Rattle.client_shadow.specs.declared.class.Class.TheVariants.{Answer, Sync, Defer}
@@ -46,23 +47,32 @@ module _ {R S : Type 0} (tracked : S → Tracked) (steps : Steps S) (stands : R 
     pub size : new.size ≡ old.size
 
 module _ {R S : Type 0} (stands : R → S → Type 0) (fails : R → Type 0) (tells : R → Option (List (List Spelled))) (sends : R → ℕ) (steps : Steps S) where
-  -- a front refused the call of the next line, at which it submitted the open batch alone; own
-  pub record RefusesNext (left : List Line) (old new : FrontView R) : Type 0 where
-    pub line : Line
-    pub later : List Line
+  -- a front refused the call of a line, at which it submitted the open batch alone; own
+  pub record RefusesLine (old new : FrontView R) (line : Line) : Type 0 where
     pub call : Call
-    pub next : left ≡ line ∷ later
     pub act : line.act ≡ Gl call
     pub refuses : RefusesCall stands fails tells sends steps old new call
     pub ends : EndsBatch tells sends old new
 
 module _ {R S : Type 0} (tracked : S → Tracked) (steps : Steps S) (stands : R → S → Type 0) (fails : R → Type 0) (tells : R → Option (List (List Spelled))) (sends : R → ℕ) where
-  -- memory was wanting: the first of the lines were run, but what the last of them told may be missing. Then the front did no more, or refused the next call; own
+  -- a line was run that makes a call which asks for something, but its answer wasn't added to what was told; own
+  pub record RunsUntold (old new : FrontView R) (line : Line) : Type 0 where
+    pub call : Call
+    pub act : line.act ≡ Gl call
+    pub asks : is_answering call ≡ true
+    pub answer : List DoneView
+    pub runs : RunsOn tracked steps stands tells (line ∷ []) old new [] answer
+
+  -- where memory was wanting at a line: the front did nothing, or refused its call, or its call was answered and the answer was lost; own
+  abbrev pub StopsAt : FrontView R → FrontView R → Line → Type 0
+  StopsAt old new line = (new ≡ old) ⊎ (RefusesLine stands fails tells sends steps old new line ⊎ RunsUntold old new line)
+
+  -- memory was wanting at a line, which told nothing: those before it were run, and told what they tell, and no other was; own
   pub record StopsOn (lines : List Line) (old new : FrontView R) (old_told new_told : List DoneView) : Type 0 where
-    pub first : List Line
-    pub left : List Line
-    pub all : lines ≡ first ++ left
+    pub before : List Line
+    pub line : Line
+    pub behind : List Line
+    pub all : lines ≡ before ++ line ∷ behind
     pub mid : FrontView R
-    pub untold : List DoneView
-    pub runs : RunsOn tracked steps stands tells first old mid old_told (new_told ++ untold)
-    pub stops : (new ≡ mid) ⊎ RefusesNext stands fails tells sends steps left mid new
+    pub runs : RunsOn tracked steps stands tells before old mid old_told new_told
+    pub stops : StopsAt mid new line

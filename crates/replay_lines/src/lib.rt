@@ -3,8 +3,6 @@
 
 mod lines;
 mod results;
-#[cfg(test)]
-mod tests;
 
 pub use lines::run_lines;
-pub use results::{Done, Results, What, answer_of, image_of};
+pub use results::{Done, Printed, Results, What, answer_of, image_of};

@@ -3,7 +3,7 @@
 ghost use Rattle.std.specs.Prelude.{◌≡◌, ℕ, ◌+◌, ◌*◌, ◌^◌, ◌<◌, ◌≤◌, length, OnOk, OnErr, List, [], ◌∷◌, ◌++◌};
 ghost use Rattle.std.specs.List.{All};
 ghost use Rattle.gl_front.specs.Front.{AllHaveRoom, AllRiseLittle, CanRise};
-ghost use Rattle.replay_lines.specs.Limits.{AllLow, AllRiseBy, IsSmall};
+ghost use Rattle.replay_lines.specs.Limits.{AllLow, AllRiseBy, IsSmall, most_lines};
 ghost use Rattle.replay_lines.specs.Lines.{lines_in};
 ghost use Rattle.replay_lines.specs.Results.{DoneView};
 ghost use Rattle.replay_lines.specs.Running.{RunsOn, StopsOn};
@@ -17,7 +17,7 @@ use std::alloc::{AllocError as NoMemory, Global};
 use std::thread::Threads;
 
 /// Runs the lines of a context in order, and adds what they tell. Lines of other contexts are passed over. There are at
-/// most 262,144 lines. NoMemory stops at a line, and leaves results that were only added to; own.
+/// most 262,144 lines. NoMemory stops at a line, which tells nothing, and leaves what the lines before it told; own.
 pub fn run_lines<T: Threads + Sync, D: Driver, R: Rail<D>>(
     rt: &T,
     alloc: Global,
@@ -26,7 +26,7 @@ pub fn run_lines<T: Threads + Sync, D: Driver, R: Rail<D>>(
     lines: &[Line],
     results: &mut Results,
 ) -> Result<(), NoMemory>
-    requires few { length lines.now ≤ 262144 }
+    requires few { length lines.now ≤ most_lines }
     requires images { All IsSmall lines.now }
     requires counts { AllLow front.old.counts }
     requires sent { R.sent front.old.rail < 2 ^ 61 }
@@ -94,7 +94,7 @@ fn run_line<T: Threads + Sync, D: Driver, R: Rail<D>>(
         Act::Gl(call) => {
             front.knows_tracked();
             let reply = front.issue(rt, call)?;
-            results.note(alloc, line.number, line.context, call, reply)
+            results.note(line.number, line.context, call, reply)
         }
     }
 }

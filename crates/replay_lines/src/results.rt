@@ -1,8 +1,9 @@
 //! What the lines of a script told. How it is printed and put is told elsewhere.
 
-ghost use Rattle.std.specs.Prelude.{◌≡◌, ◌≤◌, ◌<◌, [], ◌∷◌, ◌++◌, length, slice_index_or, IfOk, OnOk, OnErr};
+ghost use Rattle.std.specs.Prelude.{◌≡◌, ◌≤◌, ◌<◌, [], ◌∷◌, ◌++◌, true, length, slice_index_or, IfOk, OnOk, OnErr};
 ghost use Rattle.driver_trait.specs.Reply.{replied};
-ghost use Rattle.replay_lines.specs.Results.{Answer, Picture, count_of_bytes, printed, shown_by, taken_bytes, told_by, told_of};
+ghost use Rattle.gl_words.specs.Call.{is_answering};
+ghost use Rattle.replay_lines.specs.Results.{Answer, Picture, count_of_bytes, printed, printed_by, shown_by, taken_bytes, told_by, told_of};
 
 use driver_trait::Reply;
 use gl_memory::{ClientMemory, Memory, Numbers, Octets};
@@ -11,13 +12,22 @@ use script_reader::Name;
 use std::alloc::{AllocError as NoMemory, Global};
 use std::marker::Model;
 
+/// The numbers that are printed of a reply: none, one by itself, or a list of them. Only a list takes memory, and it is the
+/// reply's; own.
+#[derive(Drop)]
+pub enum Printed {
+    Nothing,
+    One(i64),
+    Many(Numbers),
+}
+
 /// What a line told; own.
 #[derive(Drop)]
 pub enum What {
     /// A call that asks for something, and the numbers that are printed of its reply: of ReadPixels the count of its bytes.
     Answer {
         call: Call,
-        numbers: Numbers,
+        numbers: Printed,
     },
     /// The image of this name that was taken out of client memory: its sides in pixels, and its bytes, row by row from the
     /// bottom, four a pixel.
@@ -71,10 +81,10 @@ impl Results {
         Ok(())
     }
 
-    /// Adds what a call of this line tells by its reply, where it tells something. NoMemory leaves them as they were; own.
+    /// Adds what a call of this line tells by its reply, where it tells something. NoMemory, which only a call that asks for
+    /// something meets, leaves them as they were; own.
     pub fn note(
         &mut self,
-        alloc: Global,
         number: u32,
         context: u32,
         call: &Call,
@@ -83,15 +93,15 @@ impl Results {
         ensures ok { OnOk result
             (self.new ≡ self.old ++ told_of number context call.now (replied reply)) }
         ensures err { OnErr result (self.new ≡ self.old) }
+        ensures asked { OnErr result (is_answering call.now ≡ true) }
     {
         if !is_answering(call) {
             return Ok(());
         }
-        let what = answer_of(alloc, call, reply)?;
         self.push(Done {
             number,
             context,
-            what,
+            what: answer_of(call, reply),
         })
     }
 
@@ -111,40 +121,29 @@ impl Results {
     }
 }
 
-/// What a call tells by its reply; own.
-pub fn answer_of(alloc: Global, call: &Call, reply: Reply) -> Result<What, NoMemory>
-    ensures { IfOk result
-        (λ what. shown_by what ≡ Answer call.now (printed call.now (replied reply))) }
+/// What a call tells by its reply. It takes no memory; own.
+pub fn answer_of(call: &Call, reply: Reply) -> What
+    ensures { shown_by result ≡ Answer call.now (printed call.now (replied reply)) }
 {
-    let numbers = numbers_of(alloc, call, reply)?;
-    Ok(What::Answer {
+    What::Answer {
         call: *call,
-        numbers,
-    })
+        numbers: printed_of(call, reply),
+    }
 }
 
 /// The numbers that are printed of a call's reply.
-fn numbers_of(alloc: Global, call: &Call, reply: Reply) -> Result<Numbers, NoMemory>
-    ensures { IfOk result (λ numbers. numbers.items ≡ printed call.now (replied reply)) }
+fn printed_of(call: &Call, reply: Reply) -> Printed
+    ensures { printed_by result ≡ printed call.now (replied reply) }
 {
     if let Call::ReadPixels { .. } = call {
-        return one(alloc, count(&reply));
+        return Printed::One(count(&reply));
     }
     match reply {
-        Reply::Nothing => Ok(Numbers::none(alloc)),
-        Reply::Bytes(_bytes) => Ok(Numbers::none(alloc)),
-        Reply::One(number) => one(alloc, number),
-        Reply::Numbers(numbers) => Ok(numbers),
+        Reply::Nothing => Printed::Nothing,
+        Reply::Bytes(_bytes) => Printed::Nothing,
+        Reply::One(number) => Printed::One(number),
+        Reply::Numbers(numbers) => Printed::Many(numbers),
     }
-}
-
-/// A number alone.
-fn one(alloc: Global, number: i64) -> Result<Numbers, NoMemory>
-    ensures { IfOk result (λ numbers. numbers.items ≡ number ∷ []) }
-{
-    let mut numbers = Numbers::new(alloc, 1)?;
-    numbers.push(number);
-    Ok(numbers)
 }
 
 /// How many bytes a reply has.

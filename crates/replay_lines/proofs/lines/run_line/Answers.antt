@@ -1,8 +1,7 @@
-use Rattle.std.proofs.Common.{List, [], ◌∷◌, ◌++◌, ap}
+use Rattle.std.proofs.Common.{refl}
 use Rattle.std.proofs.lemmas.Result.{on_ok_weaker, on_err_weaker}
 use Rattle.driver_trait.specs.Reply.{replied}
-use Rattle.replay_lines.specs.Results.{DoneView, told_of}
-use Rattle.replay_lines.proofs.RunLemmas.{OnErr-always, added_or_not, RunsOn-mem, RunsOn-image, RunsOn-call, StopsOn-still, StopsOn-unchanged, StopsOn-refused, StopsOn-untold}
+use Rattle.replay_lines.proofs.RunLemmas.{OnErr-always, on_err_known, added_or_not, RunsOn-mem, RunsOn-image, RunsOn-call, StopsOn-still, StopsOn-refused, StopsOn-untold}
 use Rattle.replay_lines.proofs.lines.run_line.Goals as goal
 
 pub returns-in-Mem-clause-ok : goal.returns-in-Mem-clause-ok
@@ -14,7 +13,7 @@ returns-in-Mem-clause-ok g c =
 pub returns-in_err-what-in-Image-clause-stopped : goal.returns-in_err-what-in-Image-clause-stopped
 returns-in_err-what-in-Image-clause-stopped g c =
     OnErr-always c.from_residual.result
-    (StopsOn-still g.D.Machine.tracked g.D.Machine.steps g.R.RailState.stands g.R.RailState.failed g.R.RailState.journal g.R.RailState.sent (c.args.line.now ∷ []) c.args.front.now c.args.results.now)
+    (StopsOn-still g.D.Machine.tracked g.D.Machine.steps g.R.RailState.stands g.R.RailState.failed g.R.RailState.journal g.R.RailState.sent c.args.line.now c.args.front.now c.args.results.now c.args.results.now refl)
 
 pub returns-in_err-reply-in-Gl-clause-stopped : goal.returns-in_err-reply-in-Gl-clause-stopped
 returns-in_err-reply-in-Gl-clause-stopped g c =
@@ -34,7 +33,7 @@ returns-in_ok-what-in-Image-clause-ok g c =
 pub returns-in_ok-what-in-Image-clause-stopped : goal.returns-in_ok-what-in-Image-clause-stopped
 returns-in_ok-what-in-Image-clause-stopped g c =
     on_err_weaker c.push.result
-    (λ same. StopsOn-unchanged g.D.Machine.tracked g.D.Machine.steps g.R.RailState.stands g.R.RailState.failed g.R.RailState.journal g.R.RailState.sent (c.args.line.now ∷ []) c.args.front.now c.args.results.now c.push.new.self same)
+    (StopsOn-still g.D.Machine.tracked g.D.Machine.steps g.R.RailState.stands g.R.RailState.failed g.R.RailState.journal g.R.RailState.sent c.args.line.now c.args.front.now c.args.results.now c.push.new.self)
     c.push.ensures.err
 
 pub returns-in_ok-reply-in-Gl-clause-ok : goal.returns-in_ok-reply-in-Gl-clause-ok
@@ -48,17 +47,11 @@ returns-in_ok-reply-in-Gl-clause-ok g c =
 
 pub returns-in_ok-reply-in-Gl-clause-stopped : goal.returns-in_ok-reply-in-Gl-clause-stopped
 returns-in_ok-reply-in-Gl-clause-stopped g c =
-    let issued = c.in_ok-reply-in-Gl.ensures in
-    let call = c.in-Gl.call in
-    let reply = replied c.in_ok-reply-in-Gl.reply in
-    let untold = told_of c.args.line.now.number c.args.line.now.context call reply in
-    on_err_weaker c.note.result
-    (λ same. StopsOn-untold g.D.Machine.tracked g.D.Machine.steps g.R.RailState.stands g.R.RailState.failed g.R.RailState.journal g.R.RailState.sent (c.args.line.now ∷ []) c.args.front.now c.issue.new.self c.args.results.now c.note.new.self untold
-    (RunsOn-call g.D.Machine.tracked g.D.Machine.steps g.R.RailState.stands g.R.RailState.journal g.R.RailState.failed g.R.RailState.sent c.args.line.now
-    call reply c.args.front.now c.issue.new.self c.args.results.now (c.note.new.self ++ untold)
-    c.in-Gl.is c.knows_tracked.ensures issued.ok
-    (ap (λ (t : List DoneView). t ++ untold) same)))
-    c.note.ensures.err
+    on_err_known c.note.result
+    (λ asks same. StopsOn-untold g.D.Machine.tracked g.D.Machine.steps g.R.RailState.stands g.R.RailState.failed g.R.RailState.journal g.R.RailState.sent c.args.line.now
+    c.in-Gl.call (replied c.in_ok-reply-in-Gl.reply) c.args.front.now c.issue.new.self c.args.results.now c.note.new.self
+    c.in-Gl.is c.knows_tracked.ensures c.in_ok-reply-in-Gl.ensures.ok asks same)
+    c.note.ensures.asked c.note.ensures.err
 
 pub returns-in_ok-what-in-Image-clause-kept : goal.returns-in_ok-what-in-Image-clause-kept
 returns-in_ok-what-in-Image-clause-kept g c = added_or_not c.push.result c.args.results.now c.push.new.self _ c.push.ensures.ok c.push.ensures.err
