@@ -5,8 +5,6 @@ mod asked;
 mod image;
 mod name;
 mod status;
-#[cfg(test)]
-mod tests;
 mod text;
 mod words;
 

@@ -4,7 +4,6 @@ ghost use Rattle.std.specs.Prelude.{◌≡◌, [], ◌++◌, string_bytes, IfOk,
 ghost use Rattle.gl_words.specs.Call.{name_of};
 ghost use Rattle.replay_text.specs.Text.{answer_line, counts_line, integers_text, number_line, numbers_text, plain_line};
 
-use gl_memory::Numbers;
 use gl_words::{Call, call_name};
 use std::alloc::{AllocError as NoMemory, Global};
 use std::marker::Model;
@@ -49,19 +48,13 @@ impl Text {
         line: u32,
         context: u32,
         call: &Call,
-        numbers: &Numbers,
+        numbers: &[i64],
     ) -> Result<(), NoMemory>
         ensures ok { OnOk result (self.new ≡ self.old
-            ++ answer_line line context (name_of call.now) numbers.now.items) }
+            ++ answer_line line context (name_of call.now) numbers.now) }
         ensures err { OnErr result (self.new ≡ self.old) }
     {
-        let text = answer_text(
-            self.alloc,
-            line,
-            context,
-            call_name(call),
-            numbers.as_slice(),
-        )?;
+        let text = answer_text(self.alloc, line, context, call_name(call), numbers)?;
         self.bytes.push_str(text.as_str())
     }
 
