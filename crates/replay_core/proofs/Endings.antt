@@ -1,14 +1,16 @@
 -- Runs from the start of a script's context on come to its end.
-use Rattle.std.proofs.Common.{◌≡◌, ℕ, List, [], refl, sym, ap, subst, ◌∙◌, replicate, Option}
+use Rattle.std.proofs.Common.{◌≡◌, ℕ, List, [], sym, ap, subst, ◌∙◌, replicate, Option}
 use Rattle.std.specs.Prelude.{Result, IfOk, OnErr}
 use Rattle.std.proofs.Common.{Ok, Err}
 use Rattle.batch_rail.specs.Rail.{Gains}
 use Rattle.client_shadow.specs.Cutting.{Issued, batches_from, tally_of}
 use Rattle.gl_front.specs.declared.counts.Counts.{Counts}
+use Rattle.gl_tracked.specs.declared.tracked.Tracked.{Tracked}
+use Rattle.gl_tracked.specs.Tracked.{first_tracked}
 use Rattle.script_reader.specs.declared.script.Line.{Line}
 use Rattle.soft_driver.specs.Own.{Own, first_own}
 use Rattle.soft_driver.specs.Soft.{own_tracked, OwnSteps}
-use Rattle.replay_lines.specs.Lines.{Ran, StepsThrough, lines_in}
+use Rattle.replay_lines.specs.Lines.{Ran, Standing, StepsThrough, lines_in, told_by_lines}
 use Rattle.replay_lines.specs.Results.{DoneView}
 use Rattle.replay_core.specs.Calls.{calls_of}
 use Rattle.replay_core.specs.Direct.{Reached, end_of}
@@ -17,7 +19,7 @@ use Rattle.replay_core.specs.Rail.{at_start, RunsOver}
 use Rattle.replay_core.specs.Report.{counted}
 use Rattle.replay_core.specs.Script.{Scripted}
 use Rattle.replay_core.specs.World.{Batches}
-use Rattle.replay_core.proofs.DirectLemmas.{lines_of, end_is, calls_are}
+use Rattle.replay_core.proofs.DirectLemmas.{lines_of, end_is, calls_are, first_own-tracked}
 
 -- a context came to its end, and told this
 pub record IsEnd (context : ℕ) (script : Scripted) (own : Own) (told : List DoneView) : Type 0 where
@@ -36,18 +38,22 @@ module _ (context : ℕ) (script : Scripted) (st : Own) (memory : List ℕ) (lin
   of_script : (ran : List Ran) → lines_of ran ≡ lines_in context lines → lines_of ran ≡ lines_in context script.lines
   of_script ran each = each ∙ ap (λ (l : List Line). lines_in context l) all
 
-  pub carried_to_end : (old new : PlainView Own) → old ≡ record { driver = st; here = at_start memory; told = [] } → CarriesOut own_tracked OwnSteps (lines_in context lines) old new → IsEnd context script new.driver new.told
+  pub carried_to_end : (old new : PlainView Own) → old ≡ record { driver = st; memory = memory; told = [] } → CarriesOut own_tracked OwnSteps (lines_in context lines) old new → IsEnd context script new.driver new.told
   carried_to_end old new is_new carried =
-      let start : PlainView Own = record { driver = st; here = at_start memory; told = [] } in
       let here = subst (λ (p : PlainView Own). CarriesOut own_tracked OwnSteps (lines_in context lines) p new) is_new carried in
-      let ended = end_is context script here.ran st new.driver memory is_first is_blank (of_script here.ran here.each) here.leads in
+      let first : own_tracked st ≡ first_tracked = ap own_tracked is_first ∙ first_own-tracked context script.width script.height in
+      let at : Tracked → Standing = λ t. record { tracked = t; memory = memory } in
+      let led = subst (λ (t : Tracked). StepsThrough own_tracked OwnSteps (at t) here.ran st new.driver) first here.leads in
+      let told : new.told ≡ told_by_lines (at_start memory) here.ran = here.told ∙ ap (λ (t : Tracked). told_by_lines (at t) here.ran) first in
+      let ended = end_is context script here.ran st new.driver memory is_first is_blank (of_script here.ran here.each) led in
       record {
         is_own = sym (ap (λ (r : Reached). r.own) ended);
-        is_told = here.told ∙ sym (ap (λ (r : Reached). r.told) ended);
+        is_told = told ∙ sym (ap (λ (r : Reached). r.told) ended);
       }
 
   pub ran_to_end : {R : Type 0} (stands : R → Own → Type 0) (tells : R → Option Batches) (size : ℕ) (old new : R) (told : List DoneView) (counts : Counts) (st2 : Own)
-      → RunsOver own_tracked OwnSteps stands tells size (lines_in context lines) memory old new told counts → ((s : Own) → stands old s → s ≡ st) → stands new st2
+      → RunsOver own_tracked OwnSteps stands tells (record { size = size; memory = memory; launched = old; back = new }) (lines_in context lines) told counts
+      → ((s : Own) → stands old s → s ≡ st) → stands new st2
       → RanToEnd context script size st2 told counts (tells old) (tells new)
   ran_to_end {R} stands tells size old new told counts st2 run only ends =
       let led = run.leads st2 ends in

@@ -1,13 +1,11 @@
 -- What the journals of contexts tell after a run.
-use Rattle.std.proofs.Common.{◌≡◌, ℕ, List, [], ◌++◌, Option, refl, sym, subst, ◌∙◌}
+use Rattle.std.proofs.Common.{◌≡◌, ℕ, [], Option, refl, subst}
 use Rattle.std.proofs.lemmas.List.{append-nil}
 use Rattle.batch_rail.proofs.Journals.{Gains-none, Gains-along, Gains-then}
 use Rattle.batch_rail.specs.Maker.{KeepsOthers}
 use Rattle.batch_rail.specs.Rail.{Gains}
-use Rattle.replay_text.specs.declared.asked.Command.{Command}
-use Rattle.replay_core.specs.Journals.{batches_for, HandsOver, HandsOverSome}
+use Rattle.replay_core.specs.Journals.{HandsOver, HandsOverSome}
 use Rattle.replay_core.specs.Rail.{GainsSome}
-use Rattle.replay_core.specs.Script.{Scripted}
 use Rattle.replay_core.specs.World.{Batches, Journal}
 
 -- nothing is handed over where journals are as they were

@@ -3,11 +3,11 @@ use Rattle.std.proofs.Common.{◌≡◌, ℕ, ◌+◌, ◌<◌, ◌≤◌, List,
 use Rattle.std.proofs.lemmas.List.{take_all}
 use Rattle.std.proofs.lemmas.Bool.{cases_lt}
 use Rattle.std.proofs.Math.Seq.{take-append_seam}
-use Rattle.gl_outside.specs.Moved.{Takes, Adds, AddsPart, IsAtEnd}
+use Rattle.gl_outside.specs.Moved.{Takes, IsAtEnd}
 use Rattle.replay_text.specs.declared.status.Status.{Status}
 use Rattle.replay_text.specs.declared.status.Status.TheVariants.{Ok as Done, ShelfFault, WriteFault, NoMemory}
 use Rattle.replay_text.specs.declared.asked.Command.{Command}
-use Rattle.replay_core.specs.Deliver.{Delivers, PutFirst, PutWhole, PutAll, Stored}
+use Rattle.replay_core.specs.Deliver.{Delivers, Stored}
 use Rattle.replay_core.specs.World.{File, NothingFailed, World}
 use Rattle.script_reader.specs.declared.script.ContextSpec.{ContextSpec}
 use Rattle.script_reader.specs.Limits.{HasOneContext}

@@ -10,8 +10,8 @@ use Rattle.client_shadow.specs.Cutting.{Issued, batch_unless_empty, batches_from
 use Rattle.gl_tracked.specs.declared.tracked.Tracked.{Tracked}
 use Rattle.driver_trait.specs.Driver.{Steps}
 use Rattle.gl_front.specs.declared.counts.Counts.{Counts}
-use Rattle.gl_front.specs.Front.{FrontView, StandsFor, new_front, counts_flushed, no_counts}
-use Rattle.gl_front.specs.Taking.{EndsBatch, Flushes}
+use Rattle.gl_front.specs.Front.{FrontView, new_front, counts_flushed, no_counts}
+use Rattle.gl_front.specs.Taking.{Flushes}
 use Rattle.script_reader.specs.declared.script.Line.{Line}
 use Rattle.replay_lines.specs.Moments.{issued_by_lines}
 use Rattle.replay_lines.specs.Results.{DoneView}
@@ -42,7 +42,7 @@ module _ {R S : Type 0} (tracked : S → Tracked) (steps : Steps S) (stands : R 
     (rail back : R) (memory : List ℕ) (front later flushed : FrontView R) (before told : List DoneView)
     (is_new : front ≡ new_front rail size memory) (is_back : back ≡ flushed.rail) (flush : Flushes stands fails tells sends steps later flushed) where
   pub runs_over : (counts : Counts) → before ≡ [] → RunsOn tracked steps stands tells lines front later before told → counts ≡ flushed.counts
-      → RunsOver tracked steps stands tells size lines memory rail back told counts
+      → RunsOver tracked steps stands tells (record { size = size; memory = memory; launched = rail; back = back }) lines told counts
   runs_over counts none run same_counts =
       let P : FrontView R → List DoneView → Type 0 = λ f t. RunsOn tracked steps stands tells lines f later t told in
       let here = subst (λ (t : List DoneView). P (new_front rail size memory) t) none (subst (λ (f : FrontView R). P f before) is_new run) in
@@ -71,7 +71,10 @@ module _ {R S : Type 0} (tracked : S → Tracked) (steps : Steps S) (stands : R 
       let G : R → Type 0 = λ r. (more : Batches) × Gains (tells stopped.mid.rail) (tells r) more in
       let stop : G later.rail = elim stopped.stops [
         | inl same ↦ ([], subst (λ (f : FrontView R). Gains (tells stopped.mid.rail) (tells f.rail) []) (sym same) (Gains-none (tells stopped.mid.rail) [] refl))
-        | inr refused ↦ (batch_unless_empty stopped.mid.calls, refused.ends.journal)
+        | inr other ↦ elim other [
+          | inl refused ↦ (batch_unless_empty stopped.mid.calls, refused.ends.journal)
+          | inr untold ↦ (untold.runs.batches.given, untold.runs.batches.told)
+        ]
       ] in
       let sent = Gains-then (tells rail) (tells stopped.mid.rail) (tells later.rail) first.given stop.0 opened stop.1 in
       let all = Gains-then (tells rail) (tells later.rail) (tells flushed.rail) (first.given ++ stop.0) (batch_unless_empty later.calls) sent flush.ends.journal in

@@ -1,5 +1,5 @@
 -- The images that the direct machine tells are whole.
-use Rattle.std.proofs.Common.{◌≡◌, ℕ, ◌*◌, ◌++◌, ◌==◌, Bool, true, false, cond, List, [], ◌∷◌, length, sym, subst}
+use Rattle.std.proofs.Common.{◌≡◌, ℕ, ◌*◌, ◌==◌, Bool, true, false, cond, List, [], ◌∷◌, sym, subst}
 use Rattle.std.specs.List.{All}
 use Rattle.std.proofs.lemmas.List.Elements.{All-append, All-cons, All-filter, All-head, All-nil, All-tail, All-weaker}
 use Rattle.gl_memory.specs.ClientMemory.{memory_of}
@@ -15,7 +15,7 @@ use Rattle.gl_state.specs.Event.{NoEvent}
 use Rattle.soft_driver.specs.Own.{own_step}
 use Rattle.replay_lines.specs.Limits.{IsSmall, TakesLittle}
 use Rattle.replay_lines.specs.Lines.{lines_in}
-use Rattle.replay_lines.specs.Results.{Answer, DoneView, printed, told_of}
+use Rattle.replay_lines.specs.Results.{Answer, DoneView, printed}
 use Rattle.replay_core.specs.Direct.{Reached, carried_out, past_line, past_lines, start_of, end_of}
 use Rattle.replay_core.specs.Images.{IsWhole}
 use Rattle.replay_core.specs.Script.{Scripted}

@@ -20,6 +20,7 @@ pub use Rattle.script_reader.specs.Judged
 pub use Rattle.script_reader.specs.Number
 pub use Rattle.gl_outside.specs.Faults
 pub use Rattle.gl_outside.specs.Moved
+pub use Rattle.replay_lines.specs.Limits
 pub use Rattle.replay_lines.specs.Lines
 pub use Rattle.replay_lines.specs.Moments
 pub use Rattle.replay_lines.specs.Results

@@ -56,7 +56,7 @@ pub record Runs (asked : Command) (script : Script) (before after : World) : Typ
   pub read : ReadsScript script before.left after.left
   pub handed_over : HandsOver only_number (batches_due asked script) before.journal after.journal
 
--- a script was run, all its images were put, its report was written, and nothing failed; own
+-- a script was run, all its images were put, its report was written, and the counts of failures are as they were; own
 pub record Replays (asked : Command) (before after : World) : Type 0 where
   pub script : Script
   pub runs : Runs asked script before after

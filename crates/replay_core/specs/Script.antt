@@ -5,10 +5,6 @@ use Rattle.script_reader.specs.declared.script.ContextSpec.{ContextSpec}
 use Rattle.script_reader.specs.declared.script.Line.{Line}
 use Rattle.script_reader.specs.declared.script.Script.{Script}
 
--- the most lines of a script; own
-abbrev pub most_lines : ℕ
-most_lines = 262144
-
 -- the number of a script's one context; own
 abbrev pub only_number : ℕ
 only_number = 0
@@ -27,7 +23,12 @@ first_context (context ∷ contexts) = context
 
 -- a script as its first context and its lines; own
 abbrev pub seen_script : Script → Scripted
-seen_script script = record { width = (first_context script.contexts).width; height = (first_context script.contexts).height; memory = (first_context script.contexts).memory; lines = script.lines }
+seen_script script = record {
+  width = (first_context script.contexts).width;
+  height = (first_context script.contexts).height;
+  memory = (first_context script.contexts).memory;
+  lines = script.lines;
+}
 
 -- the contexts are one, with sides of 1 to 256 pixels and at most 1,048,576 bytes of memory; own
 pub record IsOneContext (contexts : List ContextSpec) : Type 0 where

@@ -36,7 +36,7 @@ world_of left held list journal reads writes puts source sink shelf rails = reco
   failed_puts = puts shelf;
 }
 
--- no read, write or put failed; own
+-- the counts of failed reads, writes and puts are as they were; own
 pub record NothingFailed (before after : World) : Type 0 where
   pub reads : after.failed_reads ≡ before.failed_reads
   pub writes : after.failed_writes ≡ before.failed_writes

@@ -7,7 +7,6 @@ ghost use Rattle.script_reader.specs.Limits.{IsLine};
 ghost use Rattle.replay_lines.specs.Lines.{lines_in};
 ghost use Rattle.replay_core.specs.Direct.{end_of};
 ghost use Rattle.replay_core.specs.Plain.{CarriesOut};
-ghost use Rattle.replay_core.specs.Rail.{at_start};
 ghost use Rattle.replay_core.specs.Script.{IsOneContext, first_context, seen_script};
 
 use driver_trait::{Driver, write_reply};
@@ -52,31 +51,42 @@ pub fn direct<T: Threads + Sync>(
     Ok(DirectRun { results, soft })
 }
 
-/// A driver beside the tracked part of its state, which it doesn't tell, and its client memory; and what was told.
+/// A driver that shows the tracked part of its state.
+pub(crate) trait Shows: Driver {
+    /// The tracked part.
+    fn shown(&self) -> &Tracked
+        ensures { result.now ≡ Self.tracked self.now };
+}
+
+impl Shows for Soft {
+    fn shown(&self) -> &Tracked {
+        self.tracked()
+    }
+}
+
+/// A driver and its client memory, and what was told.
 #[derive(Drop)]
-pub(crate) struct Plain<D: Driver> {
+pub(crate) struct Plain<D: Shows> {
     driver: D,
-    tracked: Tracked,
     memory: ClientMemory,
     results: Results,
 }
 
-impl<D: Driver> Model for Plain<D> {
+impl<D: Shows> Model for Plain<D> {
     ghost use Rattle.replay_core.specs.Plain.{PlainView};
 
     ghost Value = { PlainView D };
 
-    ghost view = { λ p. record { driver = p.driver; here = record { tracked = p.tracked; memory = p.memory }; told = p.results } };
+    ghost view = { λ p. record { driver = p.driver; memory = p.memory; told = p.results } };
 }
 
-impl<D: Driver> Plain<D> {
-    /// A driver at its start, over this client memory.
+impl<D: Shows> Plain<D> {
+    /// A driver over this client memory.
     pub(crate) fn new(alloc: Global, driver: D, memory: ClientMemory) -> Plain<D>
-        ensures { result ≡ record { driver = driver; here = at_start memory; told = [] } }
+        ensures { result ≡ record { driver = driver; memory = memory; told = [] } }
     {
         Plain {
             driver,
-            tracked: Tracked::first(),
             memory,
             results: Results::new(alloc),
         }
@@ -90,8 +100,7 @@ impl<D: Driver> Plain<D> {
         context: u32,
         lines: &[Line],
     ) -> Result<(), NoMemory>
-        requires lines { All IsLine lines.now }
-        requires tracked { D.tracked self.old.driver ≡ self.old.here.tracked }
+        requires { All IsLine lines.now }
         ensures { OnOk result
             (CarriesOut D.tracked D.steps (lines_in context lines.now) self.old self.new) }
     {
@@ -118,11 +127,9 @@ impl<D: Driver> Plain<D> {
         alloc: Global,
         line: &Line,
     ) -> Result<(), NoMemory>
-        requires line { IsLine line.now }
-        requires tracked { D.tracked self.old.driver ≡ self.old.here.tracked }
-        ensures ok { OnOk result
+        requires { IsLine line.now }
+        ensures { OnOk result
             (CarriesOut D.tracked D.steps (line.now ∷ []) self.old self.new) }
-        ensures tracked { OnOk result (D.tracked self.new.driver ≡ self.new.here.tracked) }
     {
         match &line.act {
             Act::Mem { at, bytes } => {
@@ -142,33 +149,27 @@ impl<D: Driver> Plain<D> {
                     what,
                 })
             }
-            Act::Gl(call) => self.carry_out_call(rt, alloc, line, call),
+            Act::Gl(call) => self.carry_out_call(rt, line, call),
         }
     }
 
-    /// Carries a line's call out. The driver is asked once.
+    /// Carries a line's call out. The driver is asked once. Its reply is written by the tracked state after the call: only
+    /// calls that ask for something reply, and such calls leave tracked state.
     fn carry_out_call<T: Threads + Sync>(
         &mut self,
         rt: &T,
-        alloc: Global,
         line: &Line,
         call: &Call,
     ) -> Result<(), NoMemory>
-        requires call { line.now.act ≡ Act.Gl call.now }
-        requires tracked { D.tracked self.old.driver ≡ self.old.here.tracked }
-        ensures ok { OnOk result
+        requires { line.now.act ≡ Act.Gl call.now }
+        ensures { OnOk result
             (CarriesOut D.tracked D.steps (line.now ∷ []) self.old self.new) }
-        ensures tracked { OnOk result (D.tracked self.new.driver ≡ self.new.here.tracked) }
     {
         call_id(call);
         self.memory.bytes();
         let reply = self.driver.call(rt, call, &self.memory)?;
-        let before = self.tracked;
-        let fault = before.fault(call);
-        self.tracked.note(call, &self.memory, fault);
-        write_reply(&mut self.memory, &before, call, &reply);
-        self.results
-            .note(alloc, line.number, line.context, call, reply)
+        write_reply(&mut self.memory, self.driver.shown(), call, &reply);
+        self.results.note(line.number, line.context, call, reply)
     }
 }
 

@@ -7,13 +7,14 @@ ghost use Rattle.batch_rail.specs.Maker.{IsLaunched, IsRingLength};
 ghost use Rattle.gl_tracked.specs.Tracked.{first_tracked};
 ghost use Rattle.client_shadow.specs.Cutting.{tally_of};
 ghost use Rattle.script_reader.specs.Limits.{IsLine};
+ghost use Rattle.replay_lines.specs.Limits.{most_lines};
 ghost use Rattle.replay_lines.specs.Lines.{lines_in};
 ghost use Rattle.replay_core.specs.Calls.{calls_of};
 ghost use Rattle.replay_core.specs.Direct.{end_of};
 ghost use Rattle.replay_core.specs.Journals.{batches_of, HandsOver, HandsOverSome};
 ghost use Rattle.replay_core.specs.Rail.{GainsSome, RunsOver};
 ghost use Rattle.replay_core.specs.Report.{counted};
-ghost use Rattle.replay_core.specs.Script.{IsOneContext, seen_script, most_lines};
+ghost use Rattle.replay_core.specs.Script.{IsOneContext, seen_script};
 
 use crate::plain::only_context;
 use batch_rail::{Rail, RailMaker};
@@ -104,8 +105,9 @@ pub(crate) fn run_over<T: Threads + Sync, D: Driver, R: Rail<D>>(
     requires few { length lines.now ≤ most_lines }
     requires lines { All IsLine lines.now }
     ensures home { R.home result.1 }
-    ensures ok { IfOk result.0 (λ ran. RunsOver D.tracked D.steps R.stands R.journal (R.size rail)
-        (lines_in context lines.now) memory rail result.1 ran.results ran.counts) }
+    ensures ok { IfOk result.0 (λ ran. RunsOver D.tracked D.steps R.stands R.journal
+        (record { size = R.size rail; memory = memory; launched = rail; back = result.1 })
+        (lines_in context lines.now) ran.results ran.counts) }
     ensures stopped { OnErr result.0 (GainsSome (R.journal rail) (R.journal result.1)) }
 {
     let mut front = match Front::new(alloc, rail, memory) {

@@ -6,7 +6,7 @@ ghost use Rattle.replay_text.specs.Text.{number_line, plain_line};
 ghost use Rattle.replay_core.specs.Report.{answer_lines, counted, done_line, report_text, tally_line};
 
 use gl_front::Counts;
-use replay_lines::{Done, Results, What};
+use replay_lines::{Done, Printed, Results, What};
 use replay_text::Text;
 use std::alloc::{AllocError as NoMemory, Global};
 
@@ -60,7 +60,18 @@ fn answer(text: &mut Text, done: &Done) -> Result<(), NoMemory>
     ensures { OnOk result (text.new ≡ text.old ++ done_line (told_by done.now)) }
 {
     match &done.what {
-        What::Answer { call, numbers } => text.answer(done.number, done.context, call, numbers),
+        What::Answer { call, numbers } => {
+            let Done {
+                number,
+                context,
+                ..
+            } = done;
+            match numbers {
+                Printed::Nothing => text.answer(*number, *context, call, &[]),
+                Printed::One(one) => text.answer(*number, *context, call, &[*one]),
+                Printed::Many(many) => text.answer(*number, *context, call, many.as_slice()),
+            }
+        }
         What::Image { .. } => Ok(()),
     }
 }

@@ -3,11 +3,12 @@
 ghost use Rattle.std.specs.Prelude.{◌≡◌, ◌≤◌, ◌<◌, length, IfOk, OnOk, OnErr};
 ghost use Rattle.std.specs.List.{All};
 ghost use Rattle.script_reader.specs.Limits.{IsLine};
+ghost use Rattle.replay_lines.specs.Limits.{most_lines};
 ghost use Rattle.replay_core.specs.Direct.{end_of};
 ghost use Rattle.replay_core.specs.Images.{images_of};
 ghost use Rattle.replay_core.specs.Journals.{batches_for, HandsOver, HandsOverSome};
-ghost use Rattle.replay_core.specs.Report.{report_for};
-ghost use Rattle.replay_core.specs.Script.{IsOneContext, seen_script, most_lines};
+ghost use Rattle.replay_core.specs.Report.{counted, counts_for, report_for, tally_line};
+ghost use Rattle.replay_core.specs.Script.{IsOneContext, seen_script};
 ghost use Rattle.replay_text.specs.Words.{IsWithinLimits};
 ghost use Rattle.replay_text.specs.declared.asked.Command.TheVariants.{Direct};
 
@@ -16,6 +17,7 @@ use crate::plain::{DirectRun, direct};
 use crate::rail::{RailRun, run_script};
 use crate::reporting::{direct_report, report};
 use batch_rail::RailMaker;
+use gl_front::Counts;
 use replay_lines::Results;
 use replay_text::{Command, Text};
 use script_reader::Script;
@@ -64,13 +66,13 @@ pub fn run_command<T: Threads + Sync, R: RailMaker<Soft>>(
                 soft,
             } = run_script(rt, alloc, rails, batch, ring, context, script)?;
             let images = images(alloc, context, script, &results, soft)?;
-            let report = report(alloc, context, &results, &counts, images.len() as u64)?;
+            let report = report_of_run(alloc, asked, context, script, &results, &counts, &images)?;
             Ok(Output { images, report })
         }
         Command::Direct => {
             let DirectRun { results, soft } = direct(rt, alloc, context, script)?;
             let images = images(alloc, context, script, &results, soft)?;
-            let report = direct_report(alloc, &results, images.len() as u64)?;
+            let report = report_of_direct(alloc, context, script, &results, &images)?;
             Ok(Output { images, report })
         }
     }
@@ -94,4 +96,40 @@ fn images(
     let frame = soft.into_parts();
     images.push(frame_file(alloc, context, &frame)?)?;
     Ok(images)
+}
+
+/// The report of a run over a rail, by what was told, its counts and its images.
+fn report_of_run(
+    alloc: Global,
+    asked: Command,
+    context: u32,
+    script: &Script,
+    results: &Results,
+    counts: &Counts,
+    images: &Vec<ImageFile>,
+) -> Result<Text, NoMemory>
+    requires told { results.now ≡ (end_of context (seen_script script.now)).told }
+    requires counts { tally_line context (counted counts.now)
+        ≡ counts_for asked context (seen_script script.now) }
+    requires images { images.now.items ≡ images_of context (seen_script script.now) }
+    ensures { IfOk result (λ text. text ≡ report_for asked context (seen_script script.now)) }
+{
+    let text = report(alloc, context, results, counts, images.len() as u64)?;
+    Ok(text)
+}
+
+/// The report of the direct machine, by what was told and its images.
+fn report_of_direct(
+    alloc: Global,
+    context: u32,
+    script: &Script,
+    results: &Results,
+    images: &Vec<ImageFile>,
+) -> Result<Text, NoMemory>
+    requires told { results.now ≡ (end_of context (seen_script script.now)).told }
+    requires images { images.now.items ≡ images_of context (seen_script script.now) }
+    ensures { IfOk result (λ text. text ≡ report_for Direct context (seen_script script.now)) }
+{
+    let text = direct_report(alloc, results, images.len() as u64)?;
+    Ok(text)
 }

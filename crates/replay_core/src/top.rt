@@ -56,18 +56,21 @@ pub fn replay_alone<T: Threads + Sync, S: Source, K: Sink, G: Shelf, R: RailMake
     ensures bad_script { (error : ScriptError) → result ≡ Status.BadScript error
         → ReadsNoScript error (S.left source.old) (S.left source.new)
         × (sink.new ≡ sink.old) × (shelf.new ≡ shelf.old) × (rails.new ≡ rails.old) }
-    ensures shelf_fault { let told = world_of S.left K.held G.list R.journal S.faults K.faults G.faults in
+    ensures shelf_fault { let told =
+        world_of S.left K.held G.list R.journal S.faults K.faults G.faults in
         (asked : Command) → Ask words.now asked
         → (stored : ℕ) → result ≡ Status.ShelfFault stored
         → PutsSome asked stored (told source.old sink.old shelf.old rails.old)
         (told source.new sink.new shelf.new rails.new)
         × Rose (G.faults shelf.old) (G.faults shelf.new) × (sink.new ≡ sink.old) }
-    ensures write_fault { let told = world_of S.left K.held G.list R.journal S.faults K.faults G.faults in
+    ensures write_fault { let told =
+        world_of S.left K.held G.list R.journal S.faults K.faults G.faults in
         (asked : Command) → Ask words.now asked → result ≡ Status.WriteFault
         → WritesSome asked (told source.old sink.old shelf.old rails.old)
         (told source.new sink.new shelf.new rails.new)
         × Rose (K.faults sink.old) (K.faults sink.new) }
-    ensures no_memory { let told = world_of S.left K.held G.list R.journal S.faults K.faults G.faults in
+    ensures no_memory { let told =
+        world_of S.left K.held G.list R.journal S.faults K.faults G.faults in
         (asked : Command) → Ask words.now asked → result ≡ Status.NoMemory
         → StopsAnywhere asked (told source.old sink.old shelf.old rails.old)
         (told source.new sink.new shelf.new rails.new) }

@@ -1,51 +1,51 @@
 //! How often a driver is asked, by one that counts its calls. No clause says it: an answer that was asked for twice is the
 //! same answer.
 
-ghost use Rattle.std.specs.Prelude.{◌≡◌, [], IfOk, OnErr};
+ghost use Rattle.std.specs.Prelude.{◌≡◌, IfOk, OnErr};
 ghost use Rattle.std.specs.List.{All};
 ghost use Rattle.std.specs.Thread.{IsSync};
 ghost use Rattle.driver_trait.specs.Reply.{replied};
-ghost use Rattle.driver_trait.specs.Recorder.{RecorderSteps, RecorderView};
-ghost use Rattle.batch_rail.specs.Maker.{IsLaunched};
-ghost use Rattle.driver_trait.specs.Recording.{recorder_is_driver};
 ghost use Rattle.gl_tracked.specs.Tracked.{first_tracked};
+ghost use Rattle.soft_driver.specs.Soft.{own_tracked, OwnSteps, soft_is_driver};
 ghost use Rattle.script_reader.specs.Limits.{IsLine};
 
-use crate::plain::Plain;
+use crate::plain::{Plain, Shows};
 use crate::rail::run_over;
 use batch_rail::{InlineMaker, RailMaker};
-use driver_trait::{Driver, Machine, Recorder, Reply};
+use driver_trait::{Driver, Machine, Reply};
 use gl_memory::{ClientMemory, Memory};
+use gl_tracked::Tracked;
 use gl_words::Call;
 use script_reader::{Act, Line};
-use std::alloc::{AllocError, AllocError as NoMemory, Global};
+use soft_driver::Soft;
+use std::alloc::{AllocError as NoMemory, Global};
 use std::marker::Model;
 use std::test::Fail;
 use std::thread::Threads;
 
-/// A recorder, and how often it was asked; contracts see the recorder alone.
+/// The renderer, and how often it was asked; contracts see the renderer alone.
 #[derive(Drop)]
 struct Counting {
-    recorder: Recorder,
+    soft: Soft,
     asked: u64,
 }
 
 impl Model for Counting {
-    ghost use Rattle.driver_trait.specs.Recorder.{RecorderView};
+    ghost use Rattle.soft_driver.specs.Own.{Own};
 
-    ghost Value = { RecorderView };
+    ghost Value = { Own };
 
-    ghost view = { λ c. c.recorder };
+    ghost view = { λ c. c.soft };
 }
 
 impl Counting {
-    fn new(alloc: Global) -> Counting
-        ensures { result ≡ record { tracked = first_tracked; calls = [] } }
+    /// A new renderer of context 2, of one pixel.
+    #[tactic(auto, unfolding(soft_driver::specs::Own::first_own, gl_state::specs::Private::first_private))]
+    fn new(alloc: Global) -> Result<Counting, NoMemory>
+        ensures { IfOk result (λ counting. own_tracked counting ≡ first_tracked) }
     {
-        Counting {
-            recorder: Recorder::new(alloc),
-            asked: 0,
-        }
+        let soft = Soft::new(alloc, 2, 1, 1)?;
+        Ok(Counting { soft, asked: 0 })
     }
 
     fn asked(&self) -> u64 {
@@ -54,11 +54,11 @@ impl Counting {
 }
 
 impl Machine for Counting {
-    ghost tracked = { λ st. st.tracked };
+    ghost tracked = { own_tracked };
 
-    ghost steps = { RecorderSteps };
+    ghost steps = { OwnSteps };
 
-    ghost laws = { recorder_is_driver };
+    ghost laws = { soft_is_driver };
 }
 
 impl Driver for Counting {
@@ -69,25 +69,14 @@ impl Driver for Counting {
         memory: &M,
     ) -> Result<Reply, NoMemory> {
         self.asked = self.asked.wrapping_add(1);
-        self.recorder.call(rt, call, memory)
+        self.soft.call(rt, call, memory)
     }
 }
 
-/// A rail of context 2 with batches of 16 slots, over a new driver.
-fn rail_of_sixteen<M: RailMaker<Counting>>(
-    alloc: Global,
-    maker: &mut M,
-) -> Result<M::Made, NoMemory>
-    ensures launched { IfOk result (λ rail. IsLaunched (λ (st : RecorderView). st.tracked)
-        (M.Made.stands rail) (M.Made.failed rail) (M.Made.home rail) (M.Made.size rail)
-        first_tracked) }
-    ensures sent { IfOk result (λ rail. M.Made.sent rail ≡ 0) }
-{
-    let driver = Counting::new(alloc);
-    let Ok(rail) = maker.launch(alloc, 2, driver, 16, 1) else {
-        return Err(AllocError);
-    };
-    Ok(rail)
+impl Shows for Counting {
+    fn shown(&self) -> &Tracked {
+        self.soft.tracked()
+    }
 }
 
 /// A line of context 2 that makes a call.
@@ -122,7 +111,7 @@ fn lines() -> [Line; 6]
 #[test]
 fn the_plain_program_asks_once_a_call(rt: HostRuntime) -> Result<(), Fail> {
     let memory = ClientMemory::new(rt.alloc(), 4)?;
-    let mut plain = Plain::new(rt.alloc(), Counting::new(rt.alloc()), memory);
+    let mut plain = Plain::new(rt.alloc(), Counting::new(rt.alloc())?, memory);
     plain.carry_out(&rt, rt.alloc(), 2, lines().as_slice())?;
     let (driver, _results) = plain.into_parts();
     assert_eq!(rt; driver.asked(), 6);
@@ -135,7 +124,10 @@ fn a_run_over_a_rail_asks_once_a_call_and_no_get_of_tracked_state(
 ) -> Result<(), Fail> {
     let memory = ClientMemory::new(rt.alloc(), 4)?;
     let mut maker = InlineMaker::new();
-    let rail = rail_of_sixteen(rt.alloc(), &mut maker)?;
+    let driver = Counting::new(rt.alloc())?;
+    let Ok(rail) = maker.launch(rt.alloc(), 2, driver, 16, 1) else {
+        panic!(rt; "no rail was launched")
+    };
     let (ran, rail) = run_over(&rt, rt.alloc(), rail, memory, 2, lines().as_slice());
     assert!(rt; ran.is_ok());
     let Ok(driver) = maker.close(2, rail) else {

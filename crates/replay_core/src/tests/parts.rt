@@ -4,7 +4,7 @@ use crate::{direct_report, frame_file, report};
 use gl_front::Counts;
 use gl_memory::{ClientMemory, Numbers};
 use gl_words::Call;
-use replay_lines::{Done, Results, What, image_of};
+use replay_lines::{Done, Printed, Results, What, image_of};
 use script_reader::Name;
 use soft_driver::Soft;
 use std::test::Fail;
@@ -26,7 +26,7 @@ fn an_answer_is_one_line_with_all_its_numbers(rt: HostRuntime) -> Result<(), Fai
         context: 2,
         what: What::Answer {
             call: Call::GetError,
-            numbers: Numbers::none(alloc),
+            numbers: Printed::Nothing,
         },
     })?;
     results.push(Done {
@@ -42,7 +42,7 @@ fn an_answer_is_one_line_with_all_its_numbers(rt: HostRuntime) -> Result<(), Fai
                 pname: 0x0BA0,
                 params: 0,
             },
-            numbers,
+            numbers: Printed::Many(numbers),
         },
     })?;
     let counts = Counts {

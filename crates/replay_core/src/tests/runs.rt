@@ -3,7 +3,7 @@
 ghost use Rattle.std.specs.Prelude.{◌≡◌, ◌<◌};
 ghost use Rattle.batch_rail.specs.declared.maker.RailKind.TheVariants.{Inline};
 
-use super::told::RUNS;
+use super::told::{LARGE, MOST_LINES, PAST_LIMITS, REFUSED, RUNS};
 use crate::replay_alone;
 use batch_rail::{InlineMaker, JournalMaker, RailKind, RailMaker};
 use gl_outside::{MemoryShelf, MemorySink, MemorySource};
@@ -13,16 +13,6 @@ use std::alloc::{AllocError, Global};
 use std::process::Abort;
 use std::test::Fail;
 use std::thread::Threads;
-
-pub(super) const WORDS: [&str; 3] = ["run", "--rail", "inline"];
-
-pub(super) const RED: &str =
-    "glscript 1\ncontext 0 4 4 0\n0 ClearColorx 65536 0 0 65536\n0 Clear COLOR_BUFFER_BIT\nend\n";
-
-pub(super) const RED_REPORT: &str = "glreport 1\ncounts 0 2 0 0 1\nimages 1\nend\n";
-
-pub(super) const RED_IMAGE: &[u8] =
-    b"P6\n4 4\n255\n\xff\0\0\xff\0\0\xff\0\0\xff\0\0\xff\0\0\xff\0\0\xff\0\0\xff\0\0\xff\0\0\xff\0\0\xff\0\0\xff\0\0\xff\0\0\xff\0\0\xff\0\0\xff\0\0";
 
 /// Which calls of the source, the shelf and the sink fail, and how many bytes a call moves.
 #[derive(Drop)]
@@ -52,10 +42,11 @@ pub(super) struct Left {
     pub(super) shelf: MemoryShelf,
 }
 
+/// Replays a script by words with a blank between each two.
 pub(super) fn replay<T: Threads + Sync>(
     rt: &T,
     alloc: Global,
-    words: &[&str],
+    words: &str,
     text: &[u8],
     outside: Outside,
 ) -> Result<Left, AllocError> {
@@ -67,7 +58,7 @@ pub(super) fn replay<T: Threads + Sync>(
 fn replay_over<T: Threads + Sync, R: RailMaker<Soft>>(
     rt: &T,
     alloc: Global,
-    words: &[&str],
+    words: &str,
     text: &[u8],
     outside: Outside,
     rails: &mut R,
@@ -75,7 +66,7 @@ fn replay_over<T: Threads + Sync, R: RailMaker<Soft>>(
     requires { R.kind_of rails.old ≡ Inline }
 {
     let mut all = Vec::new(alloc);
-    for word in words {
+    for word in words.split(' ') {
         all.push(String::from_str(alloc, word)?)?;
     }
     let most = outside.most.max(1);
@@ -112,30 +103,84 @@ fn are_spelled(bytes: &[u8], spelling: &[u8]) -> bool {
     digits.is_empty()
 }
 
+/// Whether bytes are those that are told of a file.
+fn are_told(bytes: &[u8], told: &str) -> bool {
+    match told.strip_prefix('#') {
+        Some(count) => count.parse::<usize>().ok() == Some(bytes.len()),
+        None => are_spelled(bytes, told.as_bytes()),
+    }
+}
+
 /// Whether the file at a place has this name and these bytes.
-fn has_file(shelf: &MemoryShelf, place: usize, told: &str) -> bool {
+pub(super) fn has_file(shelf: &MemoryShelf, place: usize, told: &str) -> bool {
     let Some((name, bytes)) = told.trim_end().split_once(' ') else {
         return false;
     };
-    place < shelf.len()
-        && shelf.name_at(place) == name
-        && are_spelled(shelf.bytes_at(place), bytes.as_bytes())
+    place < shelf.len() && shelf.name_at(place) == name && are_told(shelf.bytes_at(place), bytes)
 }
 
-/// Whether a run ends well with the report and the files that are told of it.
+/// Whether a report is what is told of it.
+fn is_report(report: &[u8], told: &str) -> bool {
+    match told.split_once('^') {
+        Some((head, others)) => {
+            report.starts_with(head.as_bytes()) && ends_so(report, head.len(), others)
+        }
+        None => report == told.as_bytes(),
+    }
+}
+
+/// Whether a report ends as is told, behind its head and so many bytes that no one looks at.
+fn ends_so(report: &[u8], head: usize, told: &str) -> bool {
+    let Some((count, tail)) = told.split_once('^') else {
+        return false;
+    };
+    let others = count.parse::<usize>().unwrap_or(0);
+    report.ends_with(tail.as_bytes())
+        && report.len() == head.wrapping_add(others).wrapping_add(tail.len())
+}
+
+/// Appends a text as often as the number before it says.
+fn append_repeated(bytes: &mut Vec<u8>, told: &str) -> Result<(), AllocError> {
+    let Some((count, text)) = told.split_once(' ') else {
+        return Ok(());
+    };
+    for _ in 0..count.parse::<u32>().unwrap_or(0) {
+        bytes.extend_from_slice(text.as_bytes())?;
+    }
+    Ok(())
+}
+
+/// The script that is told.
+fn script_of(alloc: Global, told: &str) -> Result<Vec<u8>, AllocError> {
+    let mut bytes = Vec::new(alloc);
+    let mut is_repeated = false;
+    for piece in told.split('^') {
+        if is_repeated {
+            append_repeated(&mut bytes, piece)?;
+        } else {
+            bytes.extend_from_slice(piece.as_bytes())?;
+        }
+        is_repeated = !is_repeated;
+    }
+    Ok(bytes)
+}
+
+/// Whether a run ended so: the text of its status is this one behind the program's name.
+pub(super) fn ended(alloc: Global, status: &Status, told: &str) -> Result<bool, AllocError> {
+    let text = format!(in alloc; "{status}")?;
+    Ok(text.as_str().strip_prefix("glreplay: ") == Some(told))
+}
+
+/// Whether a run ends as is told, with the report and the files that are told, and no other.
 fn runs_so<T: Threads + Sync>(rt: &T, alloc: Global, told: &str) -> Result<bool, AllocError> {
     let mut fields = told.split('~');
-    let Some(words) = fields.next() else {
-        return Ok(false);
-    };
-    let Some(text) = fields.next() else {
-        return Ok(false);
-    };
-    let Some(report) = fields.next() else {
-        return Ok(false);
-    };
-    let left = replay_asked(rt, alloc, words, text.trim_start())?;
-    if left.status != Status::Ok || left.sink.bytes() != report.trim_start().as_bytes() {
+    let words = fields.next().unwrap_or("");
+    let status = fields.next().unwrap_or("");
+    let script = script_of(alloc, fields.next().unwrap_or("").trim_start())?;
+    let report = fields.next().unwrap_or("").trim_start();
+    let sure = Outside::sure(alloc, 65536);
+    let left = replay(rt, alloc, words, script.as_slice(), sure)?;
+    if !ended(alloc, &left.status, status)? || !is_report(left.sink.bytes(), report) {
         return Ok(false);
     }
     let mut place = 0_usize;
@@ -148,128 +193,55 @@ fn runs_so<T: Threads + Sync>(rt: &T, alloc: Global, told: &str) -> Result<bool,
     Ok(left.shelf.len() == place)
 }
 
-// The bytes were worked by hand, and a plain program by other hands gives the same.
-#[test]
-fn each_script_has_its_report_and_its_images(rt: HostRuntime) -> Result<(), Fail> {
+/// Runs each of these, and counts them.
+fn count_runs<T: Threads + Sync + Abort>(
+    rt: &T,
+    alloc: Global,
+    runs: &str,
+) -> Result<u32, AllocError> {
     let mut count = 0_u32;
-    for told in RUNS.split('@') {
+    for told in runs.split('@') {
         if !told.is_empty() {
-            assert_eq!(rt; runs_so(&rt, rt.alloc(), told)?, true, "the run {told}");
+            assert!(rt; runs_so(rt, alloc, told)?, "the run {told}");
             count = count.wrapping_add(1);
         }
     }
-    assert_eq!(rt; count, 20);
+    Ok(count)
+}
+
+// The bytes were worked by hand, and a plain program by other hands gives the same.
+#[test]
+fn each_script_has_its_report_and_its_images(rt: HostRuntime) -> Result<(), Fail> {
+    assert_eq!(rt; count_runs(&rt, rt.alloc(), RUNS)?, 20);
     Ok(())
 }
 
-/// Replays where nothing fails, by words with a blank between each two.
-fn replay_asked<T: Threads + Sync>(
-    rt: &T,
-    alloc: Global,
-    words: &str,
-    text: &str,
-) -> Result<Left, AllocError> {
-    let sure = Outside::sure(alloc, 4096);
-    let mut all = Vec::new(alloc);
-    for word in words.split(' ') {
-        all.push(word)?;
-    }
-    replay(rt, alloc, all.as_slice(), text.as_bytes(), sure)
+// The lines and the faults are those of the worked examples, and of a plain program by other hands. Other words that are
+// refused stand in the tests of the words.
+#[test]
+fn what_is_refused_leaves_nothing(rt: HostRuntime) -> Result<(), Fail> {
+    assert_eq!(rt; count_runs(&rt, rt.alloc(), REFUSED)?, 12);
+    Ok(())
 }
 
-// The largest frame, client memory, image and read, a long line and full batches: with memory to spare all is done.
-// The report is that of a plain program by other hands.
+#[test]
+fn a_script_past_its_limits_is_refused(rt: HostRuntime) -> Result<(), Fail> {
+    assert_eq!(rt; count_runs(&rt, rt.alloc(), PAST_LIMITS)?, 2);
+    Ok(())
+}
+
+// With memory to spare all is done. The report is that of a plain program by other hands.
 #[test]
 fn large_things_succeed(rt: HostRuntime) -> Result<(), Fail> {
-    let alloc = rt.alloc();
-    let mut text = Vec::new(alloc);
-    text.extend_from_slice(b"glscript 1\ncontext 0 256 256 1048576\n0 mem 1 ".as_slice())?;
-    for _ in 0..4096 {
-        text.extend_from_slice(b"5A".as_slice())?;
-    }
-    text.extend_from_slice(b"\n0 image large 256 256 0\n".as_slice())?;
-    for _ in 0..1000 {
-        text.extend_from_slice(b"0 ClearColorx 65536 0 0 65536\n".as_slice())?;
-    }
-    text.extend_from_slice(b"0 Clear COLOR_BUFFER_BIT\n".as_slice())?;
-    text.extend_from_slice(b"0 ReadPixels 0 0 512 512 RGBA UNSIGNED_BYTE 0\nend\n".as_slice())?;
-    let left = replay(
-        &rt,
-        alloc,
-        &WORDS,
-        text.as_slice(),
-        Outside::sure(alloc, 65536),
-    )?;
-    assert_eq!(rt; left.status, Status::Ok);
-    assert_eq!(rt;
-        left.sink.bytes(),
-        b"glreport 1\n1006 0 ReadPixels 1048576\ncounts 0 1001 1 0 5\nimages 2\nend\n".as_slice()
-    );
-    assert_eq!(rt; left.shelf.len(), 2);
-    assert_eq!(rt; left.shelf.bytes_at(0).len(), 196_623);
-    assert_eq!(rt; left.shelf.bytes_at(1).len(), 196_623);
+    assert_eq!(rt; count_runs(&rt, rt.alloc(), LARGE)?, 1);
     Ok(())
 }
 
-/// Replays the longest script that has this line between its head and its end, again and again.
-fn replay_most<T: Threads + Sync>(
-    rt: &T,
-    alloc: Global,
-    words: &str,
-    line: &[u8],
-) -> Result<Left, AllocError> {
-    let mut text = Vec::new(alloc);
-    text.extend_from_slice(b"glscript 1\ncontext 0 1 1 0\n".as_slice())?;
-    for _ in 0..262_141 {
-        text.extend_from_slice(line)?;
-    }
-    text.extend_from_slice(b"end\n".as_slice())?;
-    let mut all = Vec::new(alloc);
-    for word in words.split(' ') {
-        all.push(word)?;
-    }
-    let sure = Outside::sure(alloc, 65536);
-    replay(rt, alloc, all.as_slice(), text.as_slice(), sure)
-}
-
-// As many lines as a script may have. Worked by hand: a batch has room for 8 or 4,096 calls of two slots each, a Flush ends
-// its batch, and the answers of the lines 3 to 262,143 have 14 bytes each and 1,461,751 digits together.
+// Worked by hand: a batch has room for 8 or 4,096 calls of two slots each, a Flush ends its batch, and the answers of the
+// lines 3 to 262,143 have 14 bytes each and 1,461,751 digits together.
 #[test]
 fn the_most_lines_are_run_over_the_longest_ring(rt: HostRuntime) -> Result<(), Fail> {
-    let rows = [
-        (
-            "run --ring 64 --batch 16",
-            b"0 Clear 0x4000\n".as_slice(),
-            "counts 0 262141 0 0 32768\nimages 1\nend\n",
-            0_usize,
-        ),
-        (
-            "run --batch 8192",
-            b"0 Clear 0x4000\n".as_slice(),
-            "counts 0 262141 0 0 64\nimages 1\nend\n",
-            0,
-        ),
-        (
-            "run --ring 64 --batch 4096",
-            b"0 Flush\n".as_slice(),
-            "counts 0 262141 0 0 262141\nimages 1\nend\n",
-            0,
-        ),
-        (
-            "run",
-            b"0 GetError\n".as_slice(),
-            "counts 0 0 262141 0 0\nimages 1\nend\n",
-            5_131_725,
-        ),
-    ];
-    for (words, line, end, answers) in &rows {
-        let left = replay_most(&rt, rt.alloc(), words, line)?;
-        assert_eq!(rt; left.status, Status::Ok);
-        let report = left.sink.bytes();
-        assert!(rt; report.starts_with(b"glreport 1\n".as_slice()));
-        assert!(rt; report.ends_with(end.as_bytes()));
-        assert_eq!(rt; report.len(), 11 + *answers + end.len());
-    }
+    assert_eq!(rt; count_runs(&rt, rt.alloc(), MOST_LINES)?, 4);
     Ok(())
 }
 
@@ -299,10 +271,10 @@ fn a_run_hands_over_the_batches_of_its_calls(rt: HostRuntime) -> Result<(), Fail
         ],
         &[0x5_0040, 0xFFFF_FFFF_FFFF_FFFF, 0, 5, 5],
     ];
-    let words = ["run", "--rail", "inline", "--batch", "16"];
+    let words = "run --rail inline --batch 16";
     let mut rails = JournalMaker::new(rt.alloc(), RailKind::Inline, 24)?;
     let sure = Outside::sure(rt.alloc(), 4096);
-    let left = replay_over(&rt, rt.alloc(), &words, PARTED.as_bytes(), sure, &mut rails)?;
+    let left = replay_over(&rt, rt.alloc(), words, PARTED.as_bytes(), sure, &mut rails)?;
     assert_eq!(rt; left.status, Status::Ok);
     assert_eq!(rt;
         left.sink.bytes(),

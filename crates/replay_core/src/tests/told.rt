@@ -1,12 +1,14 @@
-//! Scripts and what they leave, as data for the test over whole runs.
+//! Scripts and what they leave, as data for the tests over whole runs. Each run stands behind an `@`: the words, how it ends,
+//! the script, the report, and each file as its name and its bytes in hexadecimal, with a `~` between each two. In a script
+//! `^` stands around a number and a text that is repeated so many times; in a report around the number of bytes that no one
+//! looks at; and in a file `#` before the number of its bytes, where no one looks at them.
 
-/// Whole runs, each behind an `@`: the words, the script, the report, and each file as its name and its bytes in
-/// hexadecimal. They begin with the smallest runs, errors and stacks, and a get beside a pending error. Then come batches of
-/// 16 slots, which have room for three calls of five slots each; pixels that were read and are an image; each call once at
+/// Whole runs. They begin with the smallest, errors and stacks, and a get beside a pending error. Then come batches of 16
+/// slots, which have room for three calls of five slots each; pixels that were read and are an image; each call once at
 /// least, without an error; a read whose upper row lies above the frame, where the bytes between rows stay; numbers and
 /// images at the end of memory; and `direct`.
 pub(super) const RUNS: &str = "\
-@run --rail inline~
+@run --rail inline~done~
 glscript 1
 context 0 4 4 0
 0 ClearColorx 65536 0 0 65536
@@ -18,7 +20,7 @@ counts 0 2 0 0 1
 images 1
 end
 ~frame-0.ppm 50360a3420340a3235350aff0000ff0000ff0000ff0000ff0000ff0000ff0000ff0000ff0000ff0000ff0000ff0000ff0000ff0000ff0000ff0000
-@run --rail inline~
+@run --rail inline~done~
 glscript 1
 context 0 1 1 0
 end
@@ -28,7 +30,7 @@ counts 0 0 0 0 0
 images 1
 end
 ~frame-0.ppm 50360a3120310a3235350a000000
-@run --rail inline~
+@run --rail inline~done~
 glscript 1
 context 0 1 1 0
 0 Clear 1
@@ -43,7 +45,7 @@ counts 0 1 2 0 1
 images 1
 end
 ~frame-0.ppm 50360a3120310a3235350a000000
-@run --rail inline~
+@run --rail inline~done~
 glscript 1
 context 0 1 1 0
 0 PopMatrix
@@ -61,7 +63,7 @@ counts 0 4 2 0 1
 images 1
 end
 ~frame-0.ppm 50360a3120310a3235350a000000
-@run --rail inline~
+@run --rail inline~done~
 glscript 1
 context 0 1 1 16
 0 MatrixMode 0x9999
@@ -78,7 +80,7 @@ counts 0 1 2 1 1
 images 1
 end
 ~frame-0.ppm 50360a3120310a3235350a000000
-@run --rail inline~
+@run --rail inline~done~
 glscript 1
 context 0 1 1 16
 0 MatrixMode 0x9999
@@ -94,7 +96,7 @@ counts 0 2 2 0 1
 images 1
 end
 ~frame-0.ppm 50360a3120310a3235350a000000
-@run --rail inline~
+@run --rail inline~done~
 glscript 1
 context 0 1 1 8
 0 MatrixMode PROJECTION
@@ -117,7 +119,7 @@ counts 0 5 2 2 2
 images 1
 end
 ~frame-0.ppm 50360a3120310a3235350a000000
-@direct~
+@direct~done~
 glscript 1
 context 0 1 1 0
 0 Clear 1
@@ -129,7 +131,7 @@ glreport 1
 images 1
 end
 ~frame-0.ppm 50360a3120310a3235350a000000
-@run --ring 1 --batch 16~
+@run --ring 1 --batch 16~done~
 glscript 1
 context 0 1 1 64
 0 ClearColorx 0 0 0 0
@@ -143,7 +145,7 @@ counts 0 4 0 0 2
 images 1
 end
 ~frame-0.ppm 50360a3120310a3235350a000000
-@run --ring 1 --batch 8192~
+@run --ring 1 --batch 8192~done~
 glscript 1
 context 0 1 1 64
 0 ClearColorx 0 0 0 0
@@ -157,7 +159,7 @@ counts 0 4 0 0 1
 images 1
 end
 ~frame-0.ppm 50360a3120310a3235350a000000
-@run --rail inline~
+@run --rail inline~done~
 glscript 1
 context 0 2 1 128
 0 ClearColorx 0 65536 0 65536
@@ -173,7 +175,7 @@ images 2
 end
 ~image-shot.ppm 50360a3220310a3235350a00ff0000ff00
 ~frame-0.ppm 50360a3220310a3235350a00ff0000ff00
-@direct~
+@direct~done~
 glscript 1
 context 0 2 1 128
 0 ClearColorx 0 65536 0 65536
@@ -188,7 +190,7 @@ images 2
 end
 ~image-shot.ppm 50360a3220310a3235350a00ff0000ff00
 ~frame-0.ppm 50360a3220310a3235350a00ff0000ff00
-@run --rail inline --batch 16~
+@run --rail inline --batch 16~done~
 glscript 1
 context 0 2 2 64
 0 ActiveTexture TEXTURE1
@@ -244,7 +246,7 @@ images 2
 end
 ~image-seen.ppm 50360a3420310a3235350a080000000000ff8000000000
 ~frame-0.ppm 50360a3220320a3235350aff8000ff8000ff8000ff8000
-@run --rail inline --batch 1024~
+@run --rail inline --batch 1024~done~
 glscript 1
 context 0 2 2 64
 0 ActiveTexture TEXTURE1
@@ -300,7 +302,7 @@ images 2
 end
 ~image-seen.ppm 50360a3420310a3235350a080000000000ff8000000000
 ~frame-0.ppm 50360a3220320a3235350aff8000ff8000ff8000ff8000
-@run --rail inline~
+@run --rail inline~done~
 glscript 1
 context 0 1 2 20
 0 mem 0 EEEEEEEEEEEEEEEEEEEEEEEEEEEEEEEEEEEEEEEE
@@ -318,7 +320,7 @@ images 2
 end
 ~image-all.ppm 50360a3520310a3235350aeeeeeeff0000eeeeee000000eeeeee
 ~frame-0.ppm 50360a3120320a3235350aff0000ff0000
-@run --rail inline~
+@run --rail inline~done~
 glscript 1
 context 0 1 1 8
 0 mem 0 1122334455667788
@@ -335,7 +337,7 @@ images 2
 end
 ~image-all.ppm 50360a3120320a3235350a550017112233
 ~frame-0.ppm 50360a3120310a3235350a000000
-@direct~
+@direct~done~
 glscript 1
 context 0 4 4 0
 0 ClearColorx 65536 0 0 65536
@@ -346,7 +348,7 @@ glreport 1
 images 1
 end
 ~frame-0.ppm 50360a3420340a3235350aff0000ff0000ff0000ff0000ff0000ff0000ff0000ff0000ff0000ff0000ff0000ff0000ff0000ff0000ff0000ff0000
-@direct~
+@direct~done~
 glscript 1
 context 0 1 1 0
 end
@@ -355,7 +357,7 @@ glreport 1
 images 1
 end
 ~frame-0.ppm 50360a3120310a3235350a000000
-@direct~
+@direct~done~
 glscript 1
 context 0 2 3 0
 0 Clear 1
@@ -381,7 +383,7 @@ glreport 1
 images 1
 end
 ~frame-0.ppm 50360a3220330a3235350a0080ff0080ff0080ff0080ff0080ff0080ff
-@direct~
+@direct~done~
 glscript 1
 context 0 1 1 0
 0 ClearColorx 65536 0 0 0
@@ -401,4 +403,197 @@ glreport 1
 images 1
 end
 ~frame-0.ppm 50360a3120310a3235350aff0000
+";
+
+/// Words that are refused, and scripts with a fault in each line that may have one.
+pub(super) const REFUSED: &str = "\
+@run --ring 65~bad words~
+glscript 1
+context 0 4 4 0
+0 ClearColorx 65536 0 0 65536
+0 Clear COLOR_BUFFER_BIT
+end
+~
+@run --rail inline~line 1: NoEnd~
+~
+@run --rail inline~line 1: BadHeader~
+glscript 9
+context 0 4 4 0
+0 ClearColorx 65536 0 0 65536
+0 Clear COLOR_BUFFER_BIT
+end
+~
+@run --rail inline~line 2: OutOfRange~
+glscript 1
+context 0 4 257 0
+0 ClearColorx 65536 0 0 65536
+0 Clear COLOR_BUFFER_BIT
+end
+~
+@run --rail inline~line 3: UnknownWord~
+glscript 1
+context 0 4 4 0
+0 clear 1
+0 Clear COLOR_BUFFER_BIT
+end
+~
+@run --rail inline~line 3: OutOfRange~
+glscript 1
+context 0 4 4 0
+0 ClearColorx 2147483648 0 0 0
+0 Clear COLOR_BUFFER_BIT
+end
+~
+@run --rail inline~line 4: BadNumber~
+glscript 1
+context 0 4 4 0
+0 ClearColorx 65536 0 0 65536
+0 Clear 5x
+end
+~
+@run --rail inline~line 4: NotText~
+glscript 1
+context 0 4 4 0
+0 ClearColorx 65536 0 0 65536
+0 Clear COLOR_BUFFER_BIT\u{80}
+end
+~
+@run --rail inline~line 5: NoEnd~
+glscript 1
+context 0 4 4 0
+0 ClearColorx 65536 0 0 65536
+0 Clear COLOR_BUFFER_BIT
+~
+@run --rail inline~line 5: WrongCount~
+glscript 1
+context 0 4 4 0
+0 ClearColorx 65536 0 0 65536
+0 Clear COLOR_BUFFER_BIT
+0 Clear
+end
+~
+@run --rail inline~line 5: NoSuchContext~
+glscript 1
+context 0 4 4 0
+0 ClearColorx 65536 0 0 65536
+0 Clear COLOR_BUFFER_BIT
+1 Flush
+end
+~
+@run --rail inline~line 6: AfterEnd~
+glscript 1
+context 0 4 4 0
+0 ClearColorx 65536 0 0 65536
+0 Clear COLOR_BUFFER_BIT
+end
+0 Flush
+~
+";
+
+/// A byte behind the last line that a script may have, and a last line that goes on past the last byte.
+pub(super) const PAST_LIMITS: &str = "\
+@run --rail inline~line 262145: TooMany Lines~
+glscript 1
+context 0 4 4 0
+0 ClearColorx 65536 0 0 65536
+0 Clear COLOR_BUFFER_BIT
+end
+^262139 
+^#~
+@run --rail inline~line 3: TooMany SourceBytes~
+glscript 1
+context 0 4 4 0
+#^8388581 x^#~
+";
+
+/// The largest frame, client memory, image and read, a long line and full batches.
+pub(super) const LARGE: &str = "\
+@run --rail inline~done~
+glscript 1
+context 0 256 256 1048576
+0 mem 1 ^4096 5A^
+0 image large 256 256 0
+^1000 0 ClearColorx 65536 0 0 65536
+^0 Clear COLOR_BUFFER_BIT
+0 ReadPixels 0 0 512 512 RGBA UNSIGNED_BYTE 0
+end
+~
+glreport 1
+1006 0 ReadPixels 1048576
+counts 0 1001 1 0 5
+images 2
+end
+~image-large.ppm #196623
+~frame-0.ppm #196623
+";
+
+/// As many lines as a script may have, over the longest ring.
+pub(super) const MOST_LINES: &str = "\
+@run --ring 64 --batch 16~done~
+glscript 1
+context 0 1 1 0
+^262141 0 Clear 0x4000
+^end
+~
+glreport 1
+counts 0 262141 0 0 32768
+images 1
+end
+~frame-0.ppm 50360a3120310a3235350a000000
+@run --batch 8192~done~
+glscript 1
+context 0 1 1 0
+^262141 0 Clear 0x4000
+^end
+~
+glreport 1
+counts 0 262141 0 0 64
+images 1
+end
+~frame-0.ppm 50360a3120310a3235350a000000
+@run --ring 64 --batch 4096~done~
+glscript 1
+context 0 1 1 0
+^262141 0 Flush
+^end
+~
+glreport 1
+counts 0 262141 0 0 262141
+images 1
+end
+~frame-0.ppm 50360a3120310a3235350a000000
+@run~done~
+glscript 1
+context 0 1 1 0
+^262141 0 GetError
+^end
+~
+glreport 1
+^5131725^counts 0 0 262141 0 0
+images 1
+end
+~frame-0.ppm 50360a3120310a3235350a000000
+";
+
+/// A run with an object that fails: which, the number of its call that fails, how many bytes a call moves, how many images
+/// stand, how many bytes of the report were written, and how the run ends. The script takes six reads of 16 bytes and one
+/// that finds its end, and the report three writes.
+pub(super) const FAULTS: &str = "\
+source 0 16 0 0: read fault
+source 1 16 0 0: read fault
+source 2 16 0 0: read fault
+source 3 16 0 0: read fault
+source 4 16 0 0: read fault
+source 5 16 0 0: read fault
+source 6 16 0 0: read fault
+source 7 16 1 41: done
+shelf 0 16 0 0: shelf fault after 0 images
+shelf 1 16 1 41: done
+sink 0 16 1 0: write fault
+sink 1 16 1 16: write fault
+sink 2 16 1 32: write fault
+sink 3 16 1 41: done
+sink 1 10 1 10: write fault
+sink 41 1 1 41: done
+sink 6 7 1 41: done
 ";

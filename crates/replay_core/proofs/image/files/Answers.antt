@@ -1,4 +1,4 @@
-use Rattle.std.proofs.Common.{List, [], sym, subst, arith, rules}
+use Rattle.std.proofs.Common.{[], sym, subst, arith, rules}
 use Rattle.replay_lines.specs.Results.{DoneView, told_by}
 use Rattle.replay_core.specs.Images.{file_of, files_of, IsWhole}
 use Rattle.replay_core.proofs.Flats.{added_more}

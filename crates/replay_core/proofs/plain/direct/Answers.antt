@@ -1,18 +1,9 @@
-use Rattle.std.proofs.Common.{ap, sym, ◌∙◌, replicate}
+use Rattle.std.proofs.Common.{ap, ◌∙◌, replicate}
 use Rattle.script_reader.specs.declared.script.ContextSpec.{ContextSpec}
-use Rattle.soft_driver.specs.Own.{Own, first_own}
-use Rattle.soft_driver.specs.Soft.{own_tracked}
-use Rattle.replay_core.specs.Plain.{PlainView}
-use Rattle.replay_core.proofs.DirectLemmas.{first_own-tracked}
+use Rattle.soft_driver.specs.Own.{first_own}
 use Rattle.replay_core.specs.Script.{seen_script}
 use Rattle.replay_core.proofs.Endings.{carried_to_end}
 use Rattle.replay_core.proofs.plain.direct.Goals as goal
-
-pub carry_out-requires-clause-tracked : goal.carry_out-requires-clause-tracked
-carry_out-requires-clause-tracked g c κs live =
-    ap (λ (p : PlainView Own). own_tracked p.driver) c.new-plain.ensures ∙ ap own_tracked c.in_ok-soft.ensures
-    ∙ first_own-tracked c.args.context c.only_context-sides.result.width c.only_context-sides.result.height
-    ∙ sym (ap (λ (p : PlainView Own). p.here.tracked) c.new-plain.ensures)
 
 pub returns-clause-told : goal.returns-clause-told
 returns-clause-told g c =

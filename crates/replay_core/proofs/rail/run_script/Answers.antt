@@ -1,8 +1,7 @@
-use Rattle.std.proofs.Common.{◌≡◌, ℕ, List, [], ap, sym, subst, ◌∙◌, replicate}
-use Rattle.client_shadow.specs.Cutting.{tally_of}
+use Rattle.std.proofs.Common.{ℕ, ap, subst, ◌∙◌, replicate}
 use Rattle.gl_tracked.specs.declared.tracked.Tracked.{Tracked}
 use Rattle.batch_rail.specs.Maker.{IsLaunched}
-use Rattle.soft_driver.specs.Own.{Own, first_own}
+use Rattle.soft_driver.specs.Own.{first_own}
 use Rattle.soft_driver.specs.Soft.{own_tracked, OwnSteps}
 use Rattle.script_reader.specs.declared.script.ContextSpec.{ContextSpec}
 use Rattle.replay_lines.specs.Lines.{lines_in}
@@ -31,7 +30,7 @@ ended g c =
     let tells = g.R.Made.RailState.journal in
     let sides = c.only_context-sides.ensures.context in
     let lines = c.as_slice.result.now in
-    let over : ℕ → LinesRun → Type 0 = λ size ran. RunsOver own_tracked OwnSteps stands tells size (lines_in c.args.context lines) c.in_ok-memory.memory c.in-Ok.rail c.run_over-ran.result.1 ran.results ran.counts in
+    let over : ℕ → LinesRun → Type 0 = λ size ran. RunsOver own_tracked OwnSteps stands tells (record { size = size; memory = c.in_ok-memory.memory; launched = c.in-Ok.rail; back = c.run_over-ran.result.1 }) (lines_in c.args.context lines) ran.results ran.counts in
     let run = if_ok (over (g.R.Made.RailState.size c.in-Ok.rail)) c.run_over-ran.result.0 c.in_ok-results.field-0 c.in_ok-results.was c.run_over-ran.ensures.ok in
     ran_to_end c.args.context (seen_script c.args.script.now) c.in_ok-driver.driver c.in_ok-memory.memory lines
     (c.in_ok-driver.ensures ∙ ap (λ (k : ContextSpec). first_own c.args.context k.width k.height) sides)
@@ -68,7 +67,7 @@ returns-in_err-soft-clause-stopped g c =
     let journal = g.R.RailMaker.journal in
     let stands = g.R.Made.RailState.stands in
     let tells = g.R.Made.RailState.journal in
-    let over : LinesRun → Type 0 = λ ran. RunsOver own_tracked OwnSteps stands tells (g.R.Made.RailState.size c.in-Ok.rail) (lines_in c.args.context c.as_slice.result.now) c.in_ok-memory.memory c.in-Ok.rail c.run_over-ran.result.1 ran.results ran.counts in
+    let over : LinesRun → Type 0 = λ ran. RunsOver own_tracked OwnSteps stands tells (record { size = g.R.Made.RailState.size c.in-Ok.rail; memory = c.in_ok-memory.memory; launched = c.in-Ok.rail; back = c.run_over-ran.result.1 }) (lines_in c.args.context c.as_slice.result.now) ran.results ran.counts in
     let run = if_ok over c.run_over-ran.result.0 c.in_ok-results.field-0 c.in_ok-results.was c.run_over-ran.ensures.ok in
     OnErr-always c.from_residual-in_err-soft.result
     (hands_over_some c.args.context (journal c.args.rails.now) (journal c.launch.new.self) (journal c.close-closed.new.self) c.in-Ok.ensures.others c.close-closed.ensures.others

@@ -1,4 +1,4 @@
-use Rattle.std.proofs.Common.{◌≡◌, ℕ, ◌+◌, ◌<◌, length, List, ◌∷◌, [], take, sym, subst, ap, ◌∙◌}
+use Rattle.std.proofs.Common.{◌+◌, ◌<◌, length, List, ◌∷◌, [], take, sym, subst}
 use Rattle.std.proofs.lemmas.List.{take_all}
 use Rattle.script_reader.specs.declared.script.Line.{Line}
 use Rattle.replay_lines.specs.Lines.{lines_in}
@@ -9,7 +9,7 @@ use Rattle.replay_core.proofs.plain.Plain.carry_out.Goals as goal
 use Rattle.replay_core.proofs.plain.Plain.carry_out.Goals.{then-line-context+in_ok-carry_out_line, else-line-context}
 
 pub loop-line-init : goal.loop-line-init
-loop-line-init g c = record { carried = CarriesOut-nil g.D.Machine.tracked g.D.Machine.steps _; known = c.requires.tracked }
+loop-line-init g c = CarriesOut-nil g.D.Machine.tracked g.D.Machine.steps _
 
 pub loop-line-preserved : goal.loop-line-preserved
 loop-line-preserved g c =
@@ -23,26 +23,18 @@ loop-line-preserved g c =
     let first : PlainView g.row.D.Denot = c.args.self.now in
     let before : PlainView g.row.D.Denot = c.loop-line.self in
     let now = lines_in context (take (i + 1) lines) in
-    let so_far = c.loop-line.invariant in
     elim c.if-line-context.branch [
       | then-line-context+in_ok-carry_out_line w ↦
-          let carried = w.in_ok-carry_out_line.ensures in
           let after : PlainView g.row.D.Denot = w.carry_out_line.new.self in
-          let all = CarriesOut-then tracked steps (lines_in context (take i lines)) (line ∷ []) first before after so_far.carried carried.ok in
+          let all = CarriesOut-then tracked steps (lines_in context (take i lines)) (line ∷ []) first before after c.loop-line.invariant w.in_ok-carry_out_line.ensures in
           let here = subst (λ (ls : List Line). CarriesOut tracked steps ls first after) (sym (lines_in-its context i lines line inside c.line-item.is w.if-line-context.true)) all in
-          record {
-            carried = subst (λ (p : PlainView g.row.D.Denot). CarriesOut tracked steps now first p) (sym w.self-is) here;
-            known = subst (λ (p : PlainView g.row.D.Denot). tracked p.driver ≡ p.here.tracked) (sym w.self-is) carried.tracked;
-          }
+          subst (λ (p : PlainView g.row.D.Denot). CarriesOut tracked steps now first p) (sym w.self-is) here
       | else-line-context w ↦
-          let here = subst (λ (ls : List Line). CarriesOut tracked steps ls first before) (sym (lines_in-others context i lines line inside c.line-item.is w.if-line-context.false)) so_far.carried in
-          record {
-            carried = subst (λ (p : PlainView g.row.D.Denot). CarriesOut tracked steps now first p) (sym w.self-is) here;
-            known = subst (λ (p : PlainView g.row.D.Denot). tracked p.driver ≡ p.here.tracked) (sym w.self-is) so_far.known;
-          }
+          let here = subst (λ (ls : List Line). CarriesOut tracked steps ls first before) (sym (lines_in-others context i lines line inside c.line-item.is w.if-line-context.false)) c.loop-line.invariant in
+          subst (λ (p : PlainView g.row.D.Denot). CarriesOut tracked steps now first p) (sym w.self-is) here
     ]
 
 pub returns : goal.returns
 returns g c =
     let carried : List Line → Type 0 = λ lines. CarriesOut g.D.Machine.tracked g.D.Machine.steps (lines_in c.args.context lines) c.args.self.now c.loop-line.self in
-    subst carried (take_all c.loop-line.line-index c.args.lines.now c.loop-line-test.false) c.loop-line.invariant.carried
+    subst carried (take_all c.loop-line.line-index c.args.lines.now c.loop-line-test.false) c.loop-line.invariant
