@@ -1,0 +1,9 @@
+//! Tests of private state and of the renderer.
+#![tactic(auto)]
+
+#[cfg(test)]
+mod soft;
+#[cfg(test)]
+mod soft_read;
+#[cfg(test)]
+mod state;

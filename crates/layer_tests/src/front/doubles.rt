@@ -1,0 +1,96 @@
+//! A driver and a rail for tests.
+
+ghost use Rattle.driver_trait.specs.Recorder.{RecorderSteps};
+ghost use Rattle.driver_trait.specs.Recording.{recorder_is_driver};
+
+use batch_pack::Batch;
+use batch_rail::{Rail, RailState};
+use driver_trait::{Driver, Machine, Recorder, Reply};
+use gl_memory::Memory;
+use gl_words::Call;
+use std::alloc::{AllocError, AllocError as NoMemory};
+use std::marker::Model;
+use std::thread::Threads;
+
+/// A recorder that is refused memory where it met as many calls as it has room for.
+#[derive(Drop)]
+pub(super) struct Limited {
+    pub(super) recorder: Recorder,
+    pub(super) room: usize,
+}
+
+impl Model for Limited {
+    ghost use Rattle.driver_trait.specs.Recorder.{RecorderView};
+
+    ghost Value = { RecorderView };
+
+    ghost view = { λ l. l.recorder };
+}
+
+impl Machine for Limited {
+    ghost tracked = { λ st. st.tracked };
+
+    ghost steps = { RecorderSteps };
+
+    ghost laws = { recorder_is_driver };
+}
+
+impl Driver for Limited {
+    fn call<T: Threads + Sync, M: Memory>(
+        &mut self,
+        rt: &T,
+        call: &Call,
+        memory: &M,
+    ) -> Result<Reply, NoMemory> {
+        if self.recorder.calls().len() >= self.room {
+            return Err(AllocError);
+        }
+        self.recorder.call(rt, call, memory)
+    }
+}
+
+/// A rail that counts how often `take` was called, and is else the rail inside.
+#[derive(Drop)]
+pub(super) struct Counting<R> {
+    pub(super) inside: R,
+    pub(super) takes: u64,
+}
+
+impl<D: Machine, R: RailState<D>> RailState<D> for Counting<R> {
+    ghost stands = { λ rail. R.stands rail.inside };
+
+    ghost failed = { λ rail. R.failed rail.inside };
+
+    ghost home = { λ rail. R.home rail.inside };
+
+    ghost taken = { λ rail. R.taken rail.inside };
+
+    ghost size = { λ rail. R.size rail.inside };
+
+    ghost sent = { λ rail. R.sent rail.inside };
+
+    ghost journal = { λ rail. R.journal rail.inside };
+}
+
+impl<D: Driver, R: Rail<D>> Rail<D> for Counting<R> {
+    fn submit<T: Threads + Sync>(&mut self, rt: &T, full: Batch) -> Batch {
+        self.inside.submit(rt, full)
+    }
+
+    fn take(&mut self) -> Result<D, NoMemory> {
+        self.takes = self.takes.saturating_add(1);
+        self.inside.take()
+    }
+
+    fn put(&mut self, driver: D) {
+        self.inside.put(driver);
+    }
+
+    fn slots(&self) -> u32 {
+        self.inside.slots()
+    }
+
+    fn sent(&self) -> u64 {
+        self.inside.sent()
+    }
+}

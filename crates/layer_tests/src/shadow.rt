@@ -1,0 +1,156 @@
+//! Each public call once, and the law at the test driver through its bound.
+
+use client_shadow::laws::shadow_law;
+use client_shadow::*;
+use driver_trait::{Driver, Recorder, Reply};
+use gl_memory::ClientMemory;
+use gl_words::{Call, GlError, call_from, shape_of_name};
+use std::alloc::AllocError as NoMemory;
+use std::test::Fail;
+use std::thread::Threads;
+
+/// The call with this name and these arguments, if there is one.
+fn call_named(name: &str, numbers: &[i64]) -> Option<Call> {
+    call_from(shape_of_name(name)?.id, numbers)
+}
+
+/// Carries a call out on client memory, by whichever driver.
+fn carried_out<T: Threads + Sync, D: Driver>(
+    rt: &T,
+    driver: &mut D,
+    call: &Call,
+    memory: &ClientMemory,
+) -> Result<Reply, NoMemory> {
+    shadow_law(driver);
+    driver.call(rt, call, memory)
+}
+
+/// The number that a call is answered with, if it is.
+fn number_of(becomes: &Becomes) -> Option<i64> {
+    match becomes {
+        Becomes::Answer(number) => Some(*number),
+        Becomes::Sync | Becomes::Defer { .. } => None,
+    }
+}
+
+/// The number of a reply, where it is one.
+fn number_in(reply: &Reply) -> Option<i64> {
+    match reply {
+        Reply::One(number) => Some(*number),
+        _ => None,
+    }
+}
+
+// Another program answers so to these gets, in this order. The second, the sixth and the seventeenth call have an error.
+#[test]
+fn a_shadow_answers_as_the_driver_does(rt: HostRuntime) -> Result<(), Fail> {
+    let memory = ClientMemory::new(rt.alloc(), 0)?;
+    let mut recorder = Recorder::new(rt.alloc());
+    let mut shadow = Shadow::new();
+    let value = Some(GlError::InvalidValue);
+    let name = Some(GlError::InvalidEnum);
+    let deep = Some(GlError::StackOverflow);
+    let rows = [
+        ("VertexPointer", [3, 0x1402, 12, 100].as_slice(), None, None),
+        ("VertexPointer", [5, 0x1400, 0, 8].as_slice(), None, value),
+        ("GetPointerv", [0x808E, 0].as_slice(), Some(100), None),
+        ("GetIntegerv", [0x807A, 0].as_slice(), Some(3), None),
+        ("MatrixMode", [0x1701].as_slice(), None, None),
+        ("MatrixMode", [0x1703].as_slice(), None, name),
+        ("GetIntegerv", [0x0BA0, 0].as_slice(), Some(0x1701), None),
+        ("ClientActiveTexture", [0x84C1].as_slice(), None, None),
+        ("TexCoordPointer", [2, 0x1400, 6, 10].as_slice(), None, None),
+        ("EnableClientState", [0x8078].as_slice(), None, None),
+        ("GetPointerv", [0x8092, 0].as_slice(), Some(10), None),
+        ("IsEnabled", [0x8078].as_slice(), Some(1), None),
+        ("ClientActiveTexture", [0x84C0].as_slice(), None, None),
+        ("GetPointerv", [0x8092, 0].as_slice(), Some(0), None),
+        ("IsEnabled", [0x8078].as_slice(), Some(0), None),
+        ("PushMatrix", [].as_slice(), None, None),
+        ("PushMatrix", [].as_slice(), None, deep),
+        ("GetIntegerv", [0x0BA4, 0].as_slice(), Some(2), None),
+        ("PixelStorei", [0x0D05, 8].as_slice(), None, None),
+        ("GetIntegerv", [0x0D05, 0].as_slice(), Some(8), None),
+        ("GetIntegerv", [0x0CF5, 0].as_slice(), Some(4), None),
+    ];
+    for (name, numbers, number, fault) in rows {
+        let Some(call) = call_named(name, numbers) else {
+            return Err(Fail::new("no such call"));
+        };
+        assert_eq!(rt; shadow.answer(&call), number);
+        let look = shadow.look(&call, &memory, 16);
+        assert_eq!(rt; number_of(&look.becomes), number);
+        assert_eq!(rt; look.fault, fault);
+        let reply = carried_out(&rt, &mut recorder, &call, &memory)?;
+        assert_eq!(rt; number_in(&reply), number);
+        shadow.note(&call, &memory, look.fault);
+    }
+    assert_eq!(rt; shadow.tracked().matrix_mode, 0x1701);
+    Ok(())
+}
+
+// Another program counts 5 of these calls as put off, 8 that waited and 4 that were answered at once.
+#[test]
+fn each_kind_of_call_has_its_class(rt: HostRuntime) -> Result<(), Fail> {
+    let memory = ClientMemory::new(rt.alloc(), 64)?;
+    let shadow = Shadow::new();
+    let pixels = [0, 0, 1, 1, 0x1908, 0x1401, 0];
+    let rows = [
+        ("MatrixMode", [0x1703].as_slice(), Class::Defer),
+        ("GetIntegerv", [0x0BA0, 0].as_slice(), Class::Answer),
+        ("GetIntegerv", [0x0BA2, 8].as_slice(), Class::Sync),
+        ("GetError", [].as_slice(), Class::Sync),
+        ("GetIntegerv", [1, 0].as_slice(), Class::Sync),
+        ("GetError", [].as_slice(), Class::Sync),
+        ("Finish", [].as_slice(), Class::Sync),
+        ("MatrixMode", [1].as_slice(), Class::Defer),
+        ("GetIntegerv", [0x0BA0, 0].as_slice(), Class::Answer),
+        ("GetPointerv", [0x808E, 0].as_slice(), Class::Answer),
+        ("IsEnabled", [0x8074].as_slice(), Class::Answer),
+        ("IsEnabled", [0x0B44].as_slice(), Class::Sync),
+        ("GetFixedv", [0x0BA6, 0].as_slice(), Class::Sync),
+        ("ReadPixels", pixels.as_slice(), Class::Sync),
+        ("Flush", [].as_slice(), Class::Defer),
+        ("VertexPointer", [3, 0x1400, 0, 0].as_slice(), Class::Defer),
+        ("Clear", [0x4000].as_slice(), Class::Defer),
+    ];
+    for (name, numbers, class) in rows {
+        let Some(call) = call_named(name, numbers) else {
+            return Err(Fail::new("no such call"));
+        };
+        assert_eq!(rt; shadow.class(&call, &memory, 16), class);
+        assert_eq!(rt; shadow.answer(&call).is_some(), class == Class::Answer);
+        assert_eq!(rt; shadow.look(&call, &memory, 16).becomes.class(), class);
+    }
+    Ok(())
+}
+
+// The spelling of Viewport has a header and four arguments.
+#[test]
+fn a_call_longer_than_a_batch_waits(rt: HostRuntime) -> Result<(), Fail> {
+    let memory = ClientMemory::new(rt.alloc(), 0)?;
+    let call = Call::Viewport {
+        x: 0,
+        y: 0,
+        width: 1,
+        height: 1,
+    };
+    let shadow = Shadow::new();
+    assert_eq!(rt; shadow.class(&call, &memory, 5), Class::Defer);
+    assert_eq!(rt; shadow.class(&call, &memory, 4), Class::Sync);
+    Ok(())
+}
+
+#[test]
+fn a_flush_alone_sends_the_batch(rt: HostRuntime) {
+    let rows = [
+        (Call::Clear { mask: 0 }, false),
+        (Call::Flush, true),
+        (Call::Finish, false),
+        (Call::GetError, false),
+        (Call::PushMatrix, false),
+    ];
+    for (call, sends) in rows {
+        assert_eq!(rt; sends_batch(&call), sends);
+    }
+}

@@ -1,0 +1,134 @@
+//! What no clause says: that calls and names are found at all, against numbers from outside.
+
+use gl_words::{
+    GlError, arg_at, arg_count, arg_count_of, arguments_of, call_from, call_id, call_in, call_law,
+    call_name, is_answering, number_of_enum, shape_of_name,
+};
+use std::process::Abort;
+use std::test::Fail;
+
+/// Each name with its number, arguments that such a call may have, and whether it is answered.
+static CALLS: [(&str, u16, &[i64], bool); 29] = [
+    ("ActiveTexture", 1, &[0x84C1], false),
+    ("Clear", 8, &[16384], false),
+    (
+        "ClearColorx",
+        9,
+        &[65536, -1, 2147483647, -2147483648],
+        false,
+    ),
+    ("ClientActiveTexture", 11, &[0x84C0], false),
+    ("ColorPointer", 14, &[4, 0x1401, -1, 4294967295], false),
+    ("DisableClientState", 22, &[0x8076], false),
+    ("EnableClientState", 26, &[0x8078], false),
+    ("Finish", 27, &[], false),
+    ("Flush", 28, &[], false),
+    ("Frustumx", 30, &[1, 2, 3, 4, 5, 6], false),
+    ("GetError", 33, &[], true),
+    ("GetFixedv", 34, &[0x0B00, 16], true),
+    ("GetIntegerv", 35, &[0x0BA2, 4294967295], true),
+    ("GetPointerv", 36, &[0x808E, 8], true),
+    ("IsEnabled", 38, &[0x0B71], true),
+    ("LoadIdentity", 40, &[], false),
+    ("MatrixMode", 42, &[0x1701], false),
+    ("NormalPointer", 46, &[0x1400, 2147483647, 12], false),
+    ("Orthox", 47, &[-1, -2, -3, -4, -5, -6], false),
+    ("PixelStorei", 48, &[0x0D05, -8], false),
+    ("PopMatrix", 49, &[], false),
+    ("PushMatrix", 50, &[], false),
+    (
+        "ReadPixels",
+        51,
+        &[-1, -2, 3, 4, 0x1908, 0x1401, 1024],
+        true,
+    ),
+    ("Rotatex", 52, &[1, 2, 3, 4], false),
+    ("Scalex", 53, &[1, 2, 3], false),
+    ("TexCoordPointer", 56, &[2, 0x140C, 8, 3], false),
+    ("Translatex", 62, &[1, 2, 3], false),
+    ("VertexPointer", 63, &[3, 0x1402, 0, 4294967294], false),
+    ("Viewport", 64, &[-1, -2, 3, 4], false),
+];
+
+#[test]
+fn each_call_of_the_table_is_found_by_its_name_and_its_number(rt: HostRuntime) {
+    for (name, id, numbers, answered) in &CALLS {
+        is_found(&rt, name, *id, numbers, *answered);
+    }
+    call_law();
+}
+
+/// The name has this number, and the call that is made of it and the arguments has them.
+fn is_found(rt: &impl Abort, name: &str, id: u16, numbers: &[i64], answered: bool) {
+    let Some(shape) = shape_of_name(name) else {
+        panic!(rt; "no call has the name {name}");
+    };
+    assert_eq!(rt; shape.id, id);
+    assert_eq!(rt; arg_count_of(id), Some(numbers.len()));
+    let Some(call) = call_from(id, numbers) else {
+        panic!(rt; "no call has the number {id}");
+    };
+    assert_eq!(rt; shape.call(numbers), Some(call));
+    assert_eq!(rt; call_name(&call), name);
+    assert_eq!(rt; call_id(&call), id);
+    assert_eq!(rt; is_answering(&call), answered);
+    assert_eq!(rt; arguments_of(&call).as_slice(), numbers);
+    if 0 < arg_count(&call) {
+        assert_eq!(rt; Some(&arg_at(&call, 0)), numbers.first());
+    }
+}
+
+#[test]
+fn a_call_prints_as_a_script_spells_it(rt: HostRuntime) -> Result<(), Fail> {
+    let call = call_in(48, &[0x0D05, 0xFFFF_FFFF_FFFF_FFF8, 1]).ok_or("none")?;
+    assert_eq!(rt;
+        format!(in rt.alloc(); "{call:?}")?.as_str(),
+        "PixelStorei 3333 -8"
+    );
+    Ok(())
+}
+
+#[test]
+fn arguments_are_read_up_to_the_ends_of_their_ranges(rt: HostRuntime) {
+    let rows = [
+        (46, [0x1400, -2147483648, 4294967295].as_slice(), true),
+        (46, [-1, 0, 0].as_slice(), false),
+        (46, [0x1400, 2147483648, 0].as_slice(), false),
+        (46, [0x1400, -2147483649, 0].as_slice(), false),
+        (46, [0x1400, 0, 4294967296].as_slice(), false),
+        (46, [0x1400, 0].as_slice(), false),
+        (46, [0x1400, 0, 0, 0].as_slice(), false),
+        (33, [0].as_slice(), false),
+        (0, [].as_slice(), false),
+        (65, [].as_slice(), false),
+    ];
+    for (id, numbers, found) in rows {
+        assert_eq!(rt; call_from(id, numbers).is_some(), found);
+    }
+}
+
+// The numbers are those of the header `GLES/gl.h`.
+#[test]
+fn names_are_found_as_they_are_spelled(rt: HostRuntime) {
+    let names = [
+        ("POINTS", Some(0)),
+        ("COLOR_BUFFER_BIT", Some(0x4000)),
+        ("CLAMP_TO_EDGE", Some(0x812F)),
+        ("TEXTURE_COORD_ARRAY_BUFFER_BINDING", Some(0x889A)),
+        ("TEXTURE_COORD_ARRAY_POINTER", Some(0x8092)),
+        ("points", None),
+        ("POINT", None),
+        ("TRUE", None),
+        ("", None),
+    ];
+    for (name, number) in &names {
+        assert_eq!(rt; number_of_enum(name), *number);
+    }
+    assert!(rt; shape_of_name("clear").is_none());
+}
+
+#[test]
+fn errors_have_their_numbers(rt: HostRuntime) {
+    assert_eq!(rt; GlError::InvalidEnum.code(), 1280);
+    assert_eq!(rt; GlError::OutOfMemory.code(), 1285);
+}

@@ -1,0 +1,381 @@
+//! What no clause says: that scripts are read at all, how a refusal is printed, and that the definitions
+//! agree with the worked examples and with a reference program.
+//!
+//! In a table a row is an answer and, behind ` : `, the script that has it. There `;` stands for LF, `^` for CR, `~` for the
+//! byte 0x7F, and `$` for two lines, the head and a context of 4 by 4 pixels without memory.
+
+use script_reader::{Act, Line, Name, ReadRefusal, read};
+use std::alloc::{AllocError, Global};
+use std::process::Abort;
+use std::str::from_utf8;
+use std::test::Fail;
+
+const RED: &str = "$0 ClearColorx 65536 0 0 65536;0 Clear COLOR_BUFFER_BIT;end;";
+
+// The first example, and what a comment, blanks, line ends and other spellings of the numbers leave of it. Then digits of
+// either case, and numbers in several spellings; the values are those of the rules in FORMATS.md.
+const READ: &str = "\
+4 4 0, 3: 0 ClearColorx 65536 0 0 65536, 4: 0 Clear 16384 : $0 ClearColorx 65536 0 0 65536;0 Clear COLOR_BUFFER_BIT;end;
+4 4 0, 5: 0 ClearColorx 65536 0 0 65536, 6: 0 Clear 16384 : # red^;^;glscript 1^;context 0 0x4 4 -0^;00 ClearColorx 0x10000 ZERO 0 65536^;0 Clear 16384^;end
+4 4 0, 4: 0 ClearColorx 65536 0 0 65536, 5: 0 Clear 16384 :  glscript\t1;\t#;context  0 4 0000000004 0;0 ClearColorx 65536 0 0 0x00010000 ;0\tClear 0x4000;end;#;
+4 4 0, 3: 0 mem 0: 9 : $0 mem 0 09;end;
+4 4 0, 3: 0 mem 16: 160 191 : $00 mem 0x10 a0Bf\t;end;
+4 4 0, 3: 0 mem 4294967295: 255 255 0 : $0 mem 4294967295 FFff00;end;
+4 4 0, 3: 0 image 0: 1 2 a : $0 image a 1 0x2 -0;end;
+4 4 0, 3: 0 image 8: 256 256 -Z_09 : $0 image -Z_09 256 0256 8;end;
+";
+
+#[test]
+fn a_script_is_read_as_its_lines_say(rt: HostRuntime) -> Result<(), Fail> {
+    for row in READ.lines() {
+        let (wanted, script) = row.split_once(" : ").ok_or("no row")?;
+        let script = script_in(rt.alloc(), script)?;
+        assert_eq!(rt; told(rt.alloc(), script.as_slice())?.as_str(), wanted);
+    }
+    Ok(())
+}
+
+// The refusals are those of the worked examples, of a reference program, and of the table in FORMATS.md.
+const REFUSED: &str = "\
+line 1: NoEnd :\x20
+line 1: BadHeader : glscript 9;
+line 2: BadHeader : glscript 1;end;
+line 2: OutOfRange : glscript 1;context 0 4 257 0;
+line 2: BadNumber : glscript 1;context 0 POINTS 4 0;
+line 2: NoSuchContext : glscript 1;0 Flush;
+line 3: UnknownWord : $0 clear 1;
+line 3: BadNumber : $0 Clear 5x;
+line 3: BadNumber : $0 Clear 00000000001;
+line 3: BadNumber : $0 Clear TRUE;
+line 3: WrongCount : $0 Clear 5x 5;
+line 3: WrongCount : $0 Clear;end;
+line 3: WrongCount : $0;
+line 3: WrongCount : $0 MatrixMode;
+line 3: BadNumber : $0 MatrixMode MODELVIEWS;
+line 3: UnknownWord : $0 Rotate 0 0 0 0;
+line 3: OutOfRange : $0 ClearColorx 2147483648 0 0 0;
+line 3: NoSuchContext : $1 Flush;end;
+line 3: UnknownWord : $0 Mem 0 ab;
+line 3: UnknownWord : $0 images a 1 1 0;
+line 3: UnknownWord : $mem 0 ab;
+line 3: WrongCount : $0 mem 0x;
+line 3: WrongCount : $1 mem 0x ab ab;
+line 3: WrongCount : $0 image a. 257 1;
+line 3: WrongCount : $0 image a. 257 1 0 0;
+line 3: BadNumber : $1 mem -1 abc;
+line 3: BadNumber : $1 image a. 257 1 0;
+line 3: OutOfRange : $1 mem -1 ab;
+line 3: OutOfRange : $1 image a 257 1 0;
+line 3: NoSuchContext : $1 mem 0 ab;
+line 3: NoSuchContext : $1 image a 1 1 0;
+line 4: BadHeader : $0 mem 0 ab;context 1 4 4 0;
+line 4: AfterEnd : $end;0 mem 0 ab;
+line 3: NotText : $0 Flush ~;
+line 4: BadHeader : $0 Flush;context 1 4 4 0;
+line 3: TooMany Contexts : $context 1 4 4 0;
+line 4: NoEnd : $# no more;
+line 5: AfterEnd : $end;;clear;
+line 4: NotText : $end;#~;
+line 3: NotText : $end^
+";
+
+#[test]
+fn a_refusal_names_the_line_and_its_first_fault(rt: HostRuntime) -> Result<(), Fail> {
+    are_answered(&rt, rt.alloc(), REFUSED)
+}
+
+// Each number at its last accepted and its first refused value, and the most digits.
+const EDGES: &str = "\
+read : glscript 1;context 0 256 256 1048576;0 Flush;end;
+line 2: OutOfRange : glscript 1;context 0 257 1 0;0 Flush;end;
+line 2: OutOfRange : glscript 1;context 0 1 257 0;0 Flush;end;
+line 2: OutOfRange : glscript 1;context 0 0 1 0;0 Flush;end;
+line 2: OutOfRange : glscript 1;context 0 1 0 0;0 Flush;end;
+line 2: OutOfRange : glscript 1;context 0 1 1 1048577;0 Flush;end;
+line 2: OutOfRange : glscript 1;context 0 1 1 -1;0 Flush;end;
+line 2: OutOfRange : glscript 1;context 1 1 1 0;0 Flush;end;
+read : glscript 1;context 0 1 1 0;0 Clear 4294967295;end;
+line 3: OutOfRange : glscript 1;context 0 1 1 0;0 Clear 4294967296;end;
+line 3: OutOfRange : glscript 1;context 0 1 1 0;0 Clear -1;end;
+read : glscript 1;context 0 1 1 0;0 ClearColorx 2147483647 -2147483648 0 0;end;
+line 3: OutOfRange : glscript 1;context 0 1 1 0;0 ClearColorx 2147483648 0 0 0;end;
+line 3: OutOfRange : glscript 1;context 0 1 1 0;0 ClearColorx 0 0 0 -2147483649;end;
+read : glscript 1;context 0 1 1 0;0 MatrixMode MODELVIEW;end;
+read : glscript 1;context 0 1 1 0;0 MatrixMode 4294967295;end;
+line 3: OutOfRange : glscript 1;context 0 1 1 0;0 MatrixMode 4294967296;end;
+line 3: OutOfRange : glscript 1;context 0 1 1 0;0 MatrixMode -1;end;
+read : glscript 1;context 0 1 1 0;0 Viewport 2147483647 -2147483648 0 0;end;
+line 3: OutOfRange : glscript 1;context 0 1 1 0;0 Viewport 2147483648 0 0 0;end;
+line 3: OutOfRange : glscript 1;context 0 1 1 0;0 Viewport 0 0 0 -2147483649;end;
+read : glscript 1;context 0 1 1 0;0 Clear 0xFFFFFFFF;end;
+read : glscript 1;context 0 1 1 0;0 Clear 0x00000001;end;
+line 3: BadNumber : glscript 1;context 0 1 1 0;0 Clear 0x000000001;end;
+line 3: BadNumber : glscript 1;context 0 1 1 0;0 Clear 0x;end;
+read : glscript 1;context 0 1 1 0;0 Clear 0000000001;end;
+line 3: BadNumber : glscript 1;context 0 1 1 0;0 Clear 00000000001;end;
+read : glscript 1;context 0 1 1 0;0000000000 Flush;end;
+line 3: UnknownWord : glscript 1;context 0 1 1 0;00000000000 Flush;end;
+line 3: NoSuchContext : glscript 1;context 0 1 1 0;1 Flush;end;
+read : glscript 1;context 0 1 1 0;0 mem -0 00;end;
+line 3: OutOfRange : glscript 1;context 0 1 1 0;0 mem -1 00;end;
+read : glscript 1;context 0 1 1 0;0 mem 4294967295 00;end;
+line 3: OutOfRange : glscript 1;context 0 1 1 0;0 mem 4294967296 00;end;
+line 3: BadNumber : glscript 1;context 0 1 1 0;0 mem 0x100000000 00;end;
+line 3: BadNumber : glscript 1;context 0 1 1 0;0 mem ZERO 00;end;
+line 3: BadNumber : glscript 1;context 0 1 1 0;0 mem 0 0;end;
+line 3: BadNumber : glscript 1;context 0 1 1 0;0 mem 0 000;end;
+line 3: BadNumber : glscript 1;context 0 1 1 0;0 mem 0 0x00;end;
+line 3: BadNumber : glscript 1;context 0 1 1 0;0 mem 0 0g;end;
+line 3: BadNumber : glscript 1;context 0 1 1 0;0 mem 0 @0;end;
+read : glscript 1;context 0 1 1 0;0 image a 256 256 4294967295;end;
+line 3: OutOfRange : glscript 1;context 0 1 1 0;0 image a 257 1 0;end;
+line 3: OutOfRange : glscript 1;context 0 1 1 0;0 image a 1 257 0;end;
+line 3: OutOfRange : glscript 1;context 0 1 1 0;0 image a 0 1 0;end;
+line 3: OutOfRange : glscript 1;context 0 1 1 0;0 image a 1 0 0;end;
+line 3: OutOfRange : glscript 1;context 0 1 1 0;0 image a 1 1 4294967296;end;
+line 3: OutOfRange : glscript 1;context 0 1 1 0;0 image a 1 1 -1;end;
+line 3: BadNumber : glscript 1;context 0 1 1 0;0 image a ONE 1 0;end;
+read : glscript 1;context 0 1 1 0;0 image ABCDEFGHIJKLMNOPQRSTUVWXYZ012345 1 1 0;end;
+line 3: BadNumber : glscript 1;context 0 1 1 0;0 image ABCDEFGHIJKLMNOPQRSTUVWXYZ0123456 1 1 0;end;
+";
+
+#[test]
+fn numbers_hold_at_their_edges(rt: HostRuntime) -> Result<(), Fail> {
+    are_answered(&rt, rt.alloc(), EDGES)
+}
+
+// The numbers of arguments are those of the header `GLES/gl.h`.
+const ARGUMENTS: &str = "\
+ActiveTexture 1
+Clear 1
+ClearColorx 4
+ClientActiveTexture 1
+ColorPointer 4
+DisableClientState 1
+EnableClientState 1
+Finish 0
+Flush 0
+Frustumx 6
+GetError 0
+GetFixedv 2
+GetIntegerv 2
+GetPointerv 2
+IsEnabled 1
+LoadIdentity 0
+MatrixMode 1
+NormalPointer 3
+Orthox 6
+PixelStorei 2
+PopMatrix 0
+PushMatrix 0
+ReadPixels 7
+Rotatex 4
+Scalex 3
+TexCoordPointer 4
+Translatex 3
+VertexPointer 4
+Viewport 4
+";
+
+#[test]
+fn each_call_takes_its_number_of_arguments(rt: HostRuntime) -> Result<(), Fail> {
+    for row in ARGUMENTS.lines() {
+        let (name, wanted) = row.split_once(' ').ok_or("no row")?;
+        let wanted = wanted.parse::<usize>()?;
+        for given in 0..10 {
+            let mut script = script_in(rt.alloc(), "$0 ")?;
+            script.extend_from_slice(name.as_bytes())?;
+            for _ in 0..given {
+                script.extend_from_slice(b" 1".as_slice())?;
+            }
+            script.extend_from_slice(b"\nend\n".as_slice())?;
+            let outcome = if given == wanted {
+                "read"
+            } else {
+                "line 3: WrongCount"
+            };
+            assert_eq!(rt;
+                answer(rt.alloc(), script.as_slice())?.as_str(),
+                outcome,
+                "at {row}"
+            );
+        }
+    }
+    Ok(())
+}
+
+// The shortest name, the longest and each kind of byte; and words next to them.
+const NAMES: &str = "\
+a
+-Z_09
+ABCDEFGHIJKLMNOPQRSTUVWXYZ012345
+";
+
+const OTHERS: &str = "
+a.b
+a b
+ABCDEFGHIJKLMNOPQRSTUVWXYZ0123456
+@
+[
+`
+{
+/
+:
+";
+
+#[test]
+fn a_name_is_at_most_32_letters_digits_hyphens_and_underscores(
+    rt: HostRuntime,
+) -> Result<(), Fail> {
+    for name in NAMES.lines() {
+        let made = Name::from_word(name.as_bytes()).ok_or("no name")?;
+        assert_eq!(rt; made.as_bytes(), name.as_bytes());
+    }
+    for other in OTHERS.lines() {
+        assert!(rt;
+            Name::from_word(other.as_bytes()).is_none(),
+            "{other} is none"
+        );
+    }
+    Ok(())
+}
+
+// So many images of 256 by 256 pixels stand before the other lines. 340 images and the context leave 21,845 pixels. The
+// first two rows are a worked example.
+const IMAGES: &str = "\
+340 read : end;
+341 line 343: TooMany ImageBytes : end;
+340 read : 0 image b 255 85 0;0 image b 170 1 0;end;
+340 line 345: TooMany ImageBytes : 0 image b 255 85 0;#;0 image b 171 1 0;end;
+340 line 343: NoSuchContext : 1 image b 256 256 0;end;
+";
+
+#[test]
+fn images_take_at_most_67108864_bytes(rt: HostRuntime) -> Result<(), Fail> {
+    for row in IMAGES.lines() {
+        let (images, row) = row.split_once(' ').ok_or("no row")?;
+        let (outcome, rest) = row.split_once(" : ").ok_or("no row")?;
+        let mut script = script_in(rt.alloc(), "glscript 1;context 0 256 256 0;")?;
+        for _ in 0..images.parse::<u32>()? {
+            script.extend_from_slice(b"0 image a 256 256 0\n".as_slice())?;
+        }
+        script.extend_from_slice(script_in(rt.alloc(), rest)?.as_slice())?;
+        assert_eq!(rt; answer(rt.alloc(), script.as_slice())?.as_str(), outcome);
+    }
+    Ok(())
+}
+
+// Each limit of size at its last accepted and its first refused value: behind the first example stand so many empty lines,
+// then a comment up to so many bytes.
+const LIMITS: &str = "\
+262139 0 read :\x20
+262139 0 line 262145: TooMany Lines : #
+0 8388607 read : ;
+0 8388608 line 6: TooMany SourceBytes : ;
+0 8388607 line 7: TooMany SourceBytes : ;#
+";
+
+#[test]
+fn the_limits_hold_at_their_edges(rt: HostRuntime) -> Result<(), Fail> {
+    for row in LIMITS.lines() {
+        let (lines, row) = row.split_once(' ').ok_or("no row")?;
+        let (bytes, row) = row.split_once(' ').ok_or("no row")?;
+        let (outcome, rest) = row.split_once(" : ").ok_or("no row")?;
+        let mut script = script_in(rt.alloc(), RED)?;
+        for _ in 0..lines.parse::<u32>()? {
+            script.push(b'\n')?;
+        }
+        let bytes = bytes.parse::<usize>()?;
+        if script.len() < bytes {
+            script.push(b'#')?;
+        }
+        for _ in script.len()..bytes {
+            script.push(b'x')?;
+        }
+        script.extend_from_slice(script_in(rt.alloc(), rest)?.as_slice())?;
+        assert_eq!(rt; answer(rt.alloc(), script.as_slice())?.as_str(), outcome);
+    }
+    Ok(())
+}
+
+fn are_answered(rt: &impl Abort, alloc: Global, rows: &str) -> Result<(), Fail> {
+    for row in rows.lines() {
+        let (outcome, script) = row.split_once(" : ").ok_or("no row")?;
+        let script = script_in(alloc, script)?;
+        assert_eq!(rt;
+            answer(alloc, script.as_slice())?.as_str(),
+            outcome,
+            "at {row}"
+        );
+    }
+    Ok(())
+}
+
+/// The script of a row.
+fn script_in(alloc: Global, spelling: &str) -> Result<Vec<u8>, AllocError> {
+    let mut script = Vec::new(alloc);
+    for byte in spelling.as_bytes() {
+        match byte {
+            b'$' => {
+                script.extend_from_slice(b"glscript 1\ncontext 0 4 4 0\n".as_slice())?;
+            }
+            b';' => script.push(b'\n')?,
+            b'^' => script.push(b'\r')?,
+            b'~' => script.push(0x7F)?,
+            _ => script.push(*byte)?,
+        }
+    }
+    Ok(script)
+}
+
+/// The answer to a script that isn't looked into.
+fn answer(alloc: Global, bytes: &[u8]) -> Result<String, AllocError> {
+    match read(alloc, bytes) {
+        Ok(_) => String::from_str(alloc, "read"),
+        Err(ReadRefusal::Bad(error)) => error.to_string(alloc),
+        Err(ReadRefusal::NoMemory) => Err(AllocError),
+    }
+}
+
+/// The contexts of a script and its lines, each with its number.
+fn told(alloc: Global, bytes: &[u8]) -> Result<String, Fail> {
+    let script = read(alloc, bytes)?;
+    let mut text = String::new(alloc);
+    for context in script.contexts.as_slice() {
+        text = format!(in alloc;
+            "{text}{} {} {}",
+            context.width, context.height, context.memory
+        )?;
+    }
+    for line in script.lines.as_slice() {
+        text = format!(in alloc;
+            "{text}, {}: {} {}",
+            line.number,
+            line.context,
+            spelled(alloc, line)?
+        )?;
+    }
+    Ok(text)
+}
+
+fn spelled(alloc: Global, line: &Line) -> Result<String, AllocError> {
+    match &line.act {
+        Act::Mem { at, bytes } => {
+            let mut text = format!(in alloc; "mem {at}:")?;
+            for place in 0..bytes.len() {
+                text = format!(in alloc; "{text} {}", bytes.at(place))?;
+            }
+            Ok(text)
+        }
+        Act::Image {
+            name,
+            width,
+            height,
+            at,
+        } => {
+            let name = from_utf8(name.as_bytes()).unwrap_or("");
+            format!(in alloc; "image {at}: {width} {height} {name}")
+        }
+        Act::Gl(call) => format!(in alloc; "{call:?}"),
+    }
+}
