@@ -50,7 +50,7 @@ def front_share(run, direct, reading):
             count for function, count in direct.items() if name in function
         )
 
-    front = more("try_pack") + more("replay_alone") + max(0, more("gl_tracked::tracked"))
+    front = more("Batch::pack") + more("replay_alone") + max(0, more("gl_tracked::tracked"))
     return front / sum(reading.values())
 
 
