@@ -38,6 +38,7 @@ context 0 1 1 4
 end
 """
 SHOTS_REPORT = b"glreport 1\n4 0 ReadPixels 4\nimages 3\nend\n"
+LONG = "abcdefghijklmnopqrstuvwxyz-_012"  # one letter fewer than the name of an image may have
 # The images of the examples, by their bytes from the top row on, three a pixel; another program's, as the reports are.
 EXAMPLE_IMAGES = {
     "batches": {"frame-0": "2 2 ff0000ff0000ff0000ff0000"},
@@ -171,6 +172,13 @@ def files_in_the_way(folder):
         path.symlink_to("other")
         wants(f"a link at {path.name}", run(["run"], RED, folder), (0, REPORT, b""))
         wants(f"the files after a link at {path.name}", files_in(folder), {"frame-0.ppm": IMAGE, "other": b"stays"})
+    # Two of the longest names, which differ in their last letter, and a short one that both begin with.
+    names = [LONG[:8], LONG + "3", LONG + "4"]
+    lines = ["0 mem 0 0102030405060708090a0b0c", *(f"0 image {name} 1 1 {4 * k}" for k, name in enumerate(names))]
+    report = report_of([], "0 0 0 0", 4)
+    wants("the longest names", run(["run"], script_of(1, 12, lines), emptied(folder)), (0, report, b""))
+    images = {f"image-{name}.ppm": image_of(1, 1, bytes(range(4 * k + 1, 4 * k + 4))) for k, name in enumerate(names)}
+    wants("their files", files_in(folder), images | {"frame-0.ppm": image_of(1, 1, b"\0" * 3)})
     emptied(folder)
 
 
