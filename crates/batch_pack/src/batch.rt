@@ -2,14 +2,15 @@
 
 ghost use Rattle.std.specs.Prelude.{◌≡◌, ◌<◌, ◌≤◌, ◌↔◌, [], ◌∷◌, ◌++◌, IfOk, IsErr, OnOk, OnErr};
 ghost use Rattle.batch_pack.specs.Batch.{IsBatchSize, captured, empty_batch, slots_used, slots_left};
+ghost use Rattle.batch_pack.specs.Heading.{IsHeadingOf};
 ghost use Rattle.batch_pack.specs.Spelling.{slots_of, spellings_of, HaveSpellings};
 
 use crate::fault::Full;
 use crate::reader::{Reader, reader_of};
-use crate::spelling::spelling_slots;
+use crate::spelling::{Heading, heading_of};
 use crate::writer::spell;
 use gl_memory::{ClientMemory, Pieces};
-use gl_words::Call;
+use gl_words::{Call, row_of};
 use std::alloc::{AllocError as NoMemory, Global};
 use std::marker::Model;
 
@@ -59,22 +60,22 @@ impl Batch {
             ↔ (slots_left self.old < slots_of (captured call.now pieces.now memory.now)) }
         ensures err { OnErr result (self.new ≡ self.old) }
     {
-        let slots = spelling_slots(call, pieces);
-        if u64::from(self.left()) < slots {
+        let heading = heading_of(row_of(call), pieces);
+        if u64::from(self.left()) < heading.slots {
             return Err(Full);
         }
-        self.pack(call, pieces, memory, slots);
+        self.pack(call, pieces, memory, heading);
         Ok(())
     }
 
-    /// Puts a call behind the others, as `try_pack` does, whose spelling has so many slots: they are counted, and are left.
-    pub fn pack(&mut self, call: &Call, pieces: &Pieces, memory: &ClientMemory, slots: u64)
-        requires count { slots ≡ slots_of (captured call.now pieces.now memory.now) }
-        requires fits { slots ≤ slots_left self.old }
+    /// Puts a call behind the others, as `try_pack` does, whose spelling has this heading: its slots are left.
+    pub fn pack(&mut self, call: &Call, pieces: &Pieces, memory: &ClientMemory, heading: Heading)
+        requires heading { IsHeadingOf heading (captured call.now pieces.now memory.now) }
+        requires fits { heading.slots ≤ slots_left self.old }
         ensures { self.new ≡ record self.old
             { calls = self.old.calls ++ captured call.now pieces.now memory.now ∷ [] } }
     {
-        spell(&mut self.slots, call, pieces, memory.bytes(), slots);
+        spell(&mut self.slots, call, pieces, memory.bytes(), heading);
     }
 
     /// How many slots are left.

@@ -11,7 +11,7 @@ ghost use Rattle.batch_pack.specs.Packed.{spelled_by};
 use crate::packed::Packed;
 use crate::segments::{Segments, segments_from};
 use crate::spelling::words_of;
-use gl_words::{arg_count, call_in};
+use gl_words::call_in;
 
 /// Where segments may end, in bytes of client memory: no place of theirs reaches it.
 const END: u64 = 0x4000_0000_0000_0000;
@@ -41,8 +41,11 @@ fn packed_behind<'a>(header: u64, rest: &'a [u64]) -> Option<(Packed<'a>, &'a [u
     if count > 8 {
         return None;
     }
-    let call = call_in((header % 0x1_0000) as u16, rest)?;
-    let (memory, left) = match segments_in(rest.split_at(arg_count(&call)).1, count) {
+    let (call, behind) = match call_in((header % 0x1_0000) as u16, rest) {
+        Some(read) => read,
+        None => return None,
+    };
+    let (memory, left) = match segments_in(behind, count) {
         Some(read) => read,
         None => return None,
     };

@@ -17,4 +17,4 @@ pub use laws::spelling_law;
 pub use packed::Packed;
 pub use reader::{Reader, parse};
 pub use segments::Segments;
-pub use spelling::spelling_slots;
+pub use spelling::{Heading, heading_of};

@@ -7,24 +7,31 @@ ghost use Rattle.gl_words.specs.Slots.{slot_of};
 ghost use Rattle.gl_memory.specs.ClientMemory.{memory_of};
 ghost use Rattle.gl_memory.specs.Piece.{IsPiece, bytes_from, cut, cut_out};
 ghost use Rattle.batch_pack.specs.Batch.{captured};
-ghost use Rattle.batch_pack.specs.Spelling.{slot_at, slots_for, slots_of, segment_spelling, spelling_of, HasSpelling};
+ghost use Rattle.batch_pack.specs.Heading.{IsHeadingOf};
+ghost use Rattle.batch_pack.specs.Spelling.{slot_at, slots_for, segment_spelling, spelling_of, HasSpelling};
 
-use crate::spelling::{header, words_of};
+use crate::spelling::{Heading, header, words_of};
 use gl_memory::{Piece, Pieces};
 use gl_words::{Call, arguments_of};
 
-/// Puts the spelling of a call behind the other slots, with so many slots in all.
-pub(crate) fn spell(slots: &mut Vec<u64>, call: &Call, pieces: &Pieces, bytes: &[u8], count: u64)
-    requires count { count ≡ slots_of (captured call.now pieces.now bytes.now) }
-    requires short { count < 2 ^ 32 }
-    requires room { length slots.old.items + count ≤ vec_capacity slots.old }
+/// Puts the spelling of a call with this heading behind the other slots.
+pub(crate) fn spell(
+    slots: &mut Vec<u64>,
+    call: &Call,
+    pieces: &Pieces,
+    bytes: &[u8],
+    heading: Heading,
+)
+    requires heading { IsHeadingOf heading (captured call.now pieces.now bytes.now) }
+    requires short { heading.slots < 2 ^ 32 }
+    requires room { length slots.old.items + heading.slots ≤ vec_capacity slots.old }
     ensures spelled { slots.new.items
         ≡ slots.old.items ++ spelling_of (captured call.now pieces.now bytes.now) }
     ensures has { HasSpelling (captured call.now pieces.now bytes.now) }
     ensures same_room { vec_capacity slots.new ≡ vec_capacity slots.old }
 {
     let arguments = arguments_of(call);
-    slots.push_reserved(header(call, count, pieces.len()));
+    slots.push_reserved(header(heading, pieces.len()));
     spell_arguments(slots, arguments.as_slice());
     spell_pieces(slots, pieces, bytes);
 }

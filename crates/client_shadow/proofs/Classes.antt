@@ -10,6 +10,8 @@ use Rattle.client_shadow.specs.declared.class.Class.{Class}
 use Rattle.client_shadow.specs.declared.class.Class.TheVariants.{Answer, Sync, Defer}
 use Rattle.gl_tracked.specs.declared.tracked.Tracked.{Tracked}
 use Rattle.gl_tracked.specs.Step.{number_asked}
+use Rattle.gl_words.proofs.Places.{by_truth}
+use Rattle.gl_tracked.proofs.Stepping.{number_asked-unanswered}
 use Rattle.client_shadow.specs.Class.{class_of, captured_for, is_finish}
 
 -- a class by the number that is asked for, and by the tests behind it
@@ -87,3 +89,10 @@ module _ (tracked : Tracked) (call : Call) (memory : List Segment) (slots : ℕ)
   -- and fits a batch
   pub slots_of-defer : class_of tracked call memory slots ≡ Defer → slots_of (captured_for tracked call memory) ≤ slots
   slots_of-defer is = grind (arith, nat_tests, (deferred is).short)
+
+-- a call that asks for a number of tracked state is one that is answered
+pub is_answering-asked : (tracked : Tracked) (call : Call) (number : ℤ) → number_asked tracked call ≡ Some number → true ≡ is_answering call
+is_answering-asked tracked call number asked =
+    by_truth (is_answering call)
+    (λ so. sym so)
+    (λ not. let none = number_asked-unanswered tracked call not in absurd (cc (none, asked)))

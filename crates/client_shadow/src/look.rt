@@ -4,6 +4,7 @@ ghost use Rattle.std.specs.Prelude.{◌≡◌};
 ghost use Rattle.client_shadow.specs.Look.{class_in};
 
 use crate::class::Class;
+use batch_pack::Heading;
 use gl_memory::Pieces;
 use gl_words::GlError;
 
@@ -12,11 +13,11 @@ use gl_words::GlError;
 pub enum Becomes {
     /// It is answered at once, with this number.
     Answer(i64),
-    /// All calls before it are carried out first, and then it.
-    Sync,
-    /// It is put into a batch with these pieces of client memory, where its spelling takes so many slots, and carried out
-    /// later.
-    Defer { pieces: Pieces, slots: u64 },
+    /// All calls before it are carried out first, and then it. Whether it asks for something (sections 2.5, 4.3.1 and 6.1).
+    Sync { asks: bool },
+    /// It is put into a batch with these pieces of client memory, its spelling having this heading, and carried out later.
+    /// It asks for nothing.
+    Defer { pieces: Pieces, heading: Heading },
 }
 
 impl Becomes {
@@ -26,7 +27,7 @@ impl Becomes {
     {
         match self {
             Becomes::Answer(_) => Class::Answer,
-            Becomes::Sync => Class::Sync,
+            Becomes::Sync { .. } => Class::Sync,
             Becomes::Defer { .. } => Class::Defer,
         }
     }

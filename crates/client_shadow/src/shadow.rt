@@ -1,7 +1,8 @@
 //! The tracked state of a context, as the layer knows it. It never sees a driver, and takes no memory.
 
-ghost use Rattle.std.specs.Prelude.{◌≡◌, ◌≢◌, ◌↔◌, ℕ, List, None, IsNone};
+ghost use Rattle.std.specs.Prelude.{◌≡◌, ◌≢◌, ◌≤◌, ◌↔◌, ℕ, List, None, IsNone, length};
 ghost use Rattle.gl_words.specs.Call.{is_answering, IsInRange};
+ghost use Rattle.gl_words.specs.Table.{IsRowOf};
 ghost use Rattle.gl_memory.specs.Segment.{Segment};
 ghost use Rattle.gl_memory.specs.ClientMemory.{memory_of};
 ghost use Rattle.gl_tracked.specs.Fault.{fault_of};
@@ -10,14 +11,14 @@ ghost use Rattle.gl_tracked.specs.Tracked.{first_tracked, IsSound};
 ghost use Rattle.batch_pack.specs.Spelling.{slots_of};
 ghost use Rattle.client_shadow.specs.declared.class.Class.TheVariants.{Answer};
 ghost use Rattle.client_shadow.specs.Class.{captured_for, class_of, class_unasked, is_finish, pieces_of};
-ghost use Rattle.client_shadow.specs.Look.{Captures, CountsSlots, class_in, number_in};
+ghost use Rattle.client_shadow.specs.Look.{Captures, HasHeading, asks_in, class_in, number_in};
 
 use crate::class::Class;
 use crate::look::{Becomes, Look};
-use batch_pack::spelling_slots;
+use batch_pack::heading_of;
 use gl_memory::{ClientMemory, Pieces};
 use gl_tracked::{Finding, Tracked};
-use gl_words::{Call, GlError, is_answering};
+use gl_words::{Call, GlError, TableRow, row_of};
 use std::marker::Model;
 
 /// Tracked state; own. Contracts see it.
@@ -71,18 +72,19 @@ impl Shadow {
         ensures number { number_in result.becomes ≡ number_asked self.now call.now }
         ensures pieces { Captures result.becomes
             (pieces_of self.now call.now (memory_of memory.now)) }
-        ensures slots { CountsSlots result.becomes call.now memory.now }
+        ensures heading { HasHeading result.becomes call.now memory.now }
+        ensures asks { asks_in result.becomes ≡ is_answering call.now }
         ensures fault { result.fault ≡ fault_of self.now call.now }
         ensures in_range { IsInRange call.now }
     {
-        let answers = is_answering(call);
+        let row = row_of(call);
         match self.tracked.finding(call) {
             Finding::Number(number) => Look {
                 becomes: Becomes::Answer(number),
                 fault: None,
             },
             Finding::Fault(fault) => Look {
-                becomes: self.wait_or_defer(call, answers, memory, slots),
+                becomes: self.wait_or_defer(call, row, memory, slots),
                 fault,
             },
         }
@@ -93,29 +95,30 @@ impl Shadow {
     fn wait_or_defer(
         &self,
         call: &Call,
-        answers: bool,
+        row: &TableRow,
         memory: &ClientMemory,
         slots: u32,
     ) -> Becomes
-        requires answers { answers ≡ is_answering call.now }
+        requires row { IsRowOf row.now call.now }
+        requires few { length row.now.kinds.now ≤ 9 }
         ensures class { class_in result ≡ class_unasked call.now
             (slots_of (captured_for self.now call.now (memory_of memory.now))) slots }
         ensures number { number_in result ≡ None }
         ensures pieces { Captures result (pieces_of self.now call.now (memory_of memory.now)) }
-        ensures slots { CountsSlots result call.now memory.now }
+        ensures heading { HasHeading result call.now memory.now }
+        ensures asks { asks_in result ≡ is_answering call.now }
     {
-        if answers || is_finish(call) {
-            return Becomes::Sync;
+        if row.answering || is_finish(call) {
+            return Becomes::Sync {
+                asks: row.answering,
+            };
         }
         let pieces = pieces(&self.tracked, call, memory);
-        let counted = spelling_slots(call, &pieces);
-        if u64::from(slots) < counted {
-            return Becomes::Sync;
+        let heading = heading_of(row, &pieces);
+        if u64::from(slots) < heading.slots {
+            return Becomes::Sync { asks: false };
         }
-        Becomes::Defer {
-            pieces,
-            slots: counted,
-        }
+        Becomes::Defer { pieces, heading }
     }
 
     /// The number that a call asks for (section 6.1). None exactly where its class isn't Answer.

@@ -43,17 +43,6 @@ argument_count-found row id found =
     ap (λ (o : Option Call). option_map (λ (call : Call). length (arguments call)) o) (found.1)
     ∙ ap Some (length-arguments (found.0) ∙ ap (λ (t : Told). length t.kinds) (sym (found.2)))
 
-pub argument_count-none : (id : ℕ) → call_numbered id ≡ None → argument_count id ≡ None
-unfolding argument_count
-argument_count-none id none = ap (λ (o : Option Call). option_map (λ (call : Call). length (arguments call)) o) none
-
--- a row that is found has at most nine kinds
-pub few_in_found : (row : TableRow) (id : ℕ) → IsFound id row → length row.kinds.now ≤ 9
-few_in_found row id found =
-    let few = few_arguments (found.0) in
-    let same = ap (λ (t : Told). length t.kinds) (found.2) ∙ sym (length-arguments (found.0)) in
-    omega arith
-
 -- ---- the numbers by the lengths of names
 
 numbered_passes : (p : Call → Bool) (calls : List Call) (id : ℕ) (call : Call) → list_all p calls ≡ true → numbered_in calls id ≡ Some call → p call ≡ true

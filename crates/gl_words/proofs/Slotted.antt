@@ -120,6 +120,10 @@ call_begun-short id row slots found short =
     let few = few_taken (length row.kinds.now) slots short in
     absurd (omega arith))
 
+pub behind_row : (id : ℕ) (row : TableRow) (slots behind : List ℕ) → IsFound id row → behind ≡ drop (length row.kinds.now) slots
+    → behind ≡ drop (unwrap_or (argument_count id) 0) slots
+behind_row id row slots behind found is = is ∙ ap (λ (n : ℕ). drop n slots) (sym (count_is id row found))
+
 pub call_begun-row : (id : ℕ) (row : TableRow) (slots front : List ℕ) → IsFound id row → front ≡ take (length row.kinds.now) slots
     → made_of row.call (numbers_in front) ≡ call_begun id slots
 unfolding call_begun
@@ -127,15 +131,16 @@ call_begun-row id row slots front found is =
     call_of-row id row (numbers_in front) found
     ∙ ap (λ (s : List ℕ). call_of id (numbers_in s)) (is ∙ ap (λ (n : ℕ). take n slots) (sym (count_is id row found)))
 
--- a call is in range, has the number, and slots begin with its arguments
-abbrev pub Begins : ℕ → List ℕ → Call → Type 0
-Begins id slots call = IsInRange call × (id_of call ≡ id) × (more : List ℕ) × (slots ≡ map slot_of (arguments call) ++ more)
+-- a call is in range, has the number, and slots begin with its arguments, with these others behind them
+abbrev pub Begins : ℕ → List ℕ → Call → List ℕ → Type 0
+Begins id slots call more = IsInRange call × (id_of call ≡ id) × (slots ≡ map slot_of (arguments call) ++ more)
 
-pub call_begun-is : (id : ℕ) (slots : List ℕ) (call : Call) → ((i : ℕ) → Fits w64 (get_or slots i 0)) → call_begun id slots ≡ Some call → Begins id slots call
+pub call_begun-is : (id : ℕ) (slots : List ℕ) (call : Call) → ((i : ℕ) → Fits w64 (get_or slots i 0)) → call_begun id slots ≡ Some call
+    → Begins id slots call (drop (unwrap_or (argument_count id) 0) slots)
 unfolding call_begun
 call_begun-is id slots call fit h =
     let is = call_of-is id _ call h in
-    (is.2, is.0, drop (unwrap_or (argument_count id) 0) slots, begins_with (unwrap_or (argument_count id) 0) slots (arguments call) fit (is.1))
+    (is.2, is.0, begins_with (unwrap_or (argument_count id) 0) slots (arguments call) fit (is.1))
 
 pub call_begun-again : (call : Call) (more : List ℕ) → IsInRange call → call_begun (id_of call) (map slot_of (arguments call) ++ more) ≡ Some call
 unfolding call_begun

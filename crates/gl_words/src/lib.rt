@@ -20,4 +20,4 @@ pub use lookup::shape_of_name;
 pub use making::{call_from, call_in};
 pub use names::number_of_enum;
 pub use shape::{ArgKind, Shape};
-pub use table::{arg_count, arg_count_of, call_id, call_name, is_answering};
+pub use table::{TableRow, call_id, call_name, is_answering, row_of};

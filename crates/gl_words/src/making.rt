@@ -1,10 +1,11 @@
 //! Calls of numbers and integers. The integers stand by themselves or in slots of eight bytes; they are judged before a
 //! call is made, and not again when it is.
 
-ghost use Rattle.std.specs.Prelude.{◌≡◌, ◌++◌, ℕ, ℤ, List, Some, map, IfSome};
+ghost use Rattle.std.specs.Prelude.{◌≡◌, ◌++◌, ℕ, ℤ, List, Some, drop, map, unwrap_or, IfSome, IsSomeAnd};
+ghost use Rattle.std.specs.Option.{option_map};
 ghost use Rattle.std.specs.Int.{cast_signed, w64};
 ghost use Rattle.gl_words.specs.Call.{id_of, kinds_of, arguments, again_of, IsInRange};
-ghost use Rattle.gl_words.specs.CallOf.{made_of, call_of};
+ghost use Rattle.gl_words.specs.CallOf.{argument_count, made_of, call_of};
 ghost use Rattle.gl_words.specs.Making.{unsigned_of, signed_of, truth_of, is_of_kind, fits, low_bits, signed_at, unsigned_at};
 ghost use Rattle.gl_words.specs.Slots.{slot_of, call_begun};
 ghost use Rattle.gl_words.specs.declared.call.Call.{Call};
@@ -13,19 +14,23 @@ use crate::call::Call;
 use crate::shape::ArgKind;
 use crate::table::{row_numbered, rows};
 
-/// The call with this number whose arguments slots begin with, each in two's complement of 64 bits. None exactly
-/// where they begin with those of none.
-pub fn call_in(id: u16, slots: &[u64]) -> Option<Call>
-    ensures found { IfSome result (λ call. IsInRange call × (id_of call ≡ id)
-        × (more : List ℕ) × (slots.now ≡ map slot_of (arguments call) ++ more)) }
+/// The call with this number whose arguments slots begin with, each in two's complement of 64 bits, and the slots behind
+/// them. None exactly where they begin with those of none.
+pub fn call_in<'a>(id: u16, slots: &'a [u64]) -> Option<(Call, &'a [u64])>
+    ensures found { IfSome result (λ read. IsInRange read.0 × (id_of read.0 ≡ id)
+        × (slots.now ≡ map slot_of (arguments read.0) ++ read.1.now)) }
     ensures only { (call : Call) (more : List ℕ) → IsInRange call → id_of call ≡ id
-        → slots.now ≡ map slot_of (arguments call) ++ more → result ≡ Some call }
+        → slots.now ≡ map slot_of (arguments call) ++ more
+        → IsSomeAnd result (λ read. read.0 ≡ call) }
 {
     begun(id, slots)
 }
 
-fn begun(id: u16, slots: &[u64]) -> Option<Call>
-    ensures { result ≡ call_begun id slots.now }
+/// The call with this number whose arguments slots begin with, and the slots behind them.
+fn begun<'a>(id: u16, slots: &'a [u64]) -> Option<(Call, &'a [u64])>
+    ensures call { option_map (λ read. read.0) result ≡ call_begun id slots.now }
+    ensures behind { IfSome result
+        (λ read. read.1.now ≡ drop (unwrap_or (argument_count id) 0) slots.now) }
 {
     let Some(row) = row_numbered(id) else {
         return None;
@@ -34,7 +39,11 @@ fn begun(id: u16, slots: &[u64]) -> Option<Call>
     if count > slots.len() {
         return None;
     }
-    made(row.call, row.kinds, slots.split_at(count).0)
+    let (first, behind) = slots.split_at(count);
+    match made(row.call, row.kinds, first) {
+        Some(call) => Some((call, behind)),
+        None => None,
+    }
 }
 
 /// The call with this number and these arguments. None exactly where no call has the number, the

@@ -1,9 +1,9 @@
 //! The table of calls: a row a call, which stands here once. What a row means is told in `specs/Call.antt`, and how
 //! arguments are read and made in `arguments.rt` and `making.rt`.
 
-ghost use Rattle.std.specs.Prelude.{◌≡◌, IfSome, IsTrue, MatchOption, Some, None, length, ◌≤◌};
-ghost use Rattle.gl_words.specs.Call.{id_of, name_of, kinds_of, arguments, is_answering, IsInRange};
-ghost use Rattle.gl_words.specs.CallOf.{argument_count, call_numbered};
+ghost use Rattle.std.specs.Prelude.{◌≡◌, MatchOption, Some, None, length, ◌≤◌};
+ghost use Rattle.gl_words.specs.Call.{id_of, name_of, is_answering, IsInRange};
+ghost use Rattle.gl_words.specs.CallOf.{call_numbered};
 ghost use Rattle.gl_words.specs.Table.{told, told_by, IsTable, IsRowOf};
 ghost use Rattle.gl_words.specs.declared.call.Call.{Call};
 
@@ -85,13 +85,14 @@ macro_rules! rows {
 
 pub(crate) use rows;
 
-/// A row of the table of calls: the name is that of OpenGL ES 1.1.12 without the prefix `gl`, the call one whose
-/// arguments are 0.
-pub(crate) struct TableRow {
-    pub(crate) id: u16,
-    pub(crate) name: &'static str,
-    pub(crate) kinds: &'static [ArgKind],
-    pub(crate) answering: bool,
+/// A row of the table of calls: the number (own), the name of OpenGL ES 1.1.12 without the prefix `gl`, the kind of each
+/// argument in order, and whether the call is answered (sections 2.5, 4.3.1 and 6.1).
+pub struct TableRow {
+    pub id: u16,
+    pub name: &'static str,
+    pub kinds: &'static [ArgKind],
+    pub answering: bool,
+    /// The row's call whose arguments are 0.
     pub(crate) call: Call,
 }
 
@@ -181,9 +182,10 @@ pub fn call_id(call: &Call) -> u16
     number_of(*call)
 }
 
-/// The row of a call.
-fn row_of(call: &Call) -> &'static TableRow
+/// The row of a call, found without a search. Whoever asks for it knows that the arguments are in range, and at most 9.
+pub fn row_of(call: &Call) -> &'static TableRow
     ensures row { IsRowOf result.now call.now }
+    ensures few { length result.now.kinds.now ≤ 9 }
     ensures in_range { IsInRange call.now }
 {
     match row_numbered(call_id(call)) {
@@ -199,38 +201,10 @@ pub fn call_name(call: &Call) -> &'static str
     row_of(call).name
 }
 
-/// How many arguments a call has: 0 to 9.
-pub fn arg_count(call: &Call) -> usize
-    ensures count { result ≡ length (arguments call.now) }
-    ensures few { result ≤ 9 }
-{
-    row_of(call).kinds.len()
-}
-
 /// Whether a call is answered (sections 2.5, 4.3.1 and 6.1). Whoever asks knows that its arguments are in range.
 pub fn is_answering(call: &Call) -> bool
     ensures gives { result ≡ is_answering call.now }
     ensures in_range { IsInRange call.now }
 {
     row_of(call).answering
-}
-
-/// How many arguments the call with this number has: 0 to 9. None exactly where no call has the number.
-#[tactic(auto, using(crate::proofs::Rows::counts))]
-pub fn arg_count_of(id: u16) -> Option<usize>
-    ensures gives { result ≡ argument_count id }
-    ensures found { IfSome result
-        (λ count. (call : Call) × (id_of call ≡ id) × (length (arguments call) ≡ count)) }
-    ensures only { (call : Call) → id_of call ≡ id → result ≡ Some (length (arguments call)) }
-{
-    count_from(id)
-}
-
-fn count_from(id: u16) -> Option<usize>
-    ensures { result ≡ argument_count id }
-{
-    match row_numbered(id) {
-        Some(row) => Some(row.kinds.len()),
-        None => None,
-    }
 }
