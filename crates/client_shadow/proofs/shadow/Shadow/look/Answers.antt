@@ -3,4 +3,4 @@ use Rattle.client_shadow.proofs.Classes.{is_answering-asked}
 use Rattle.client_shadow.proofs.shadow.Shadow.look.Goals as goal
 
 pub returns-in-Number-clause-asks : goal.returns-in-Number-clause-asks
-returns-in-Number-clause-asks c = is_answering-asked c.args.self.now c.args.call.now c.in-Number.number (sym c.in-Number.ensures.number)
+returns-in-Number-clause-asks c = is_answering-asked c.self.inside.tracked c.args.call.now c.in-Number.number (sym c.in-Number.ensures.number)
