@@ -1,3 +1,4 @@
+pub mod Given
 pub mod Front
 pub mod Taking
 pub mod FrontState

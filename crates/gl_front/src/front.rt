@@ -1,12 +1,12 @@
 //! The front: the part of the layer that a program calls. It has no driver, and reaches one through its rail.
 
-ghost use Rattle.std.specs.Prelude.{◌≡◌, ◌^◌, ◌<◌, [], Some, true, false, IsErr, IfOk, IfErr, OnOk, OnErr};
+ghost use Rattle.std.specs.Prelude.{◌≡◌, ◌^◌, ◌<◌, [], Some, true, false, is_some, IsErr, IfOk, IfErr, OnOk, OnErr};
 ghost use Rattle.gl_words.specs.Call.{is_answering, IsInRange};
 ghost use Rattle.batch_pack.specs.Batch.{captured};
-ghost use Rattle.batch_pack.specs.Spelling.{slots_of};
+ghost use Rattle.batch_pack.specs.Heading.{IsHeadingOf};
 ghost use Rattle.client_shadow.specs.declared.class.Class.TheVariants.{Answer, Sync, Defer};
 ghost use Rattle.client_shadow.specs.Class.{pieces_of};
-ghost use Rattle.client_shadow.specs.Look.{Captures, CountsSlots, class_in, number_in};
+ghost use Rattle.client_shadow.specs.Look.{Captures, HasHeading, asks_in, class_in, number_in};
 ghost use Rattle.gl_tracked.specs.Fault.{fault_of};
 ghost use Rattle.gl_tracked.specs.Step.{number_asked, tracked_after};
 ghost use Rattle.gl_tracked.specs.Tracked.{first_tracked};
@@ -15,11 +15,12 @@ ghost use Rattle.driver_trait.specs.Reply.{Nothing, replied};
 ghost use Rattle.gl_memory.specs.ClientMemory.{memory_of, written};
 ghost use Rattle.batch_rail.specs.Maker.{IsLaunched};
 ghost use Rattle.gl_front.specs.Front.{FrontView, new_front, KnowsTracked, class_at, AllHaveRoom, CanRise};
+ghost use Rattle.gl_front.specs.Given.{given_by};
 ghost use Rattle.gl_front.specs.Taking.{TakesCall, IsIssued, IsAnswered, HasWaited, Flushes, RefusesCall, KeepsCount};
 
 use crate::counts::Counts;
 use crate::steps::{await_all, carry_out, put_off, submit_unless_empty};
-use batch_pack::Batch;
+use batch_pack::{Batch, Heading};
 use batch_rail::Rail;
 use client_shadow::{Becomes, Class, Look, Shadow};
 use driver_trait::{Driver, Reply, write_reply};
@@ -124,16 +125,21 @@ impl<D: Driver, R: Rail<D>> Front<D, R> {
         let _rail = &self.rail;
     }
 
-    /// Issues a call, and gives its reply, which is written into client memory where the call wants it. Only a call that
-    /// waits meets the first NoMemory: a batch before it failed, or the driver was refused memory at the call itself.
+    /// Issues a call, and gives its reply, which is written into client memory where the call wants it: None exactly where
+    /// the call asks for nothing (sections 2.5, 4.3.1 and 6.1). Only a call that waits meets the first NoMemory: a batch before it failed, or the driver was refused memory at the call itself.
     /// After a refusal every later issue is refused and does nothing; own.
-    pub fn issue<T: Threads + Sync>(&mut self, rt: &T, call: &Call) -> Result<Reply, NoMemory>
+    pub fn issue<T: Threads + Sync>(
+        &mut self,
+        rt: &T,
+        call: &Call,
+    ) -> Result<Option<Reply>, NoMemory>
         requires counts { AllHaveRoom self.old.counts }
         requires sent { CanRise (R.sent self.old.rail) }
-        ensures ok { IfOk result (λ reply. TakesCall R.stands R.failed R.journal R.sent D.steps
-            self.old self.new call.now (replied reply)) }
-        ensures issued { IfOk result (λ reply. IsIssued R.stands R.failed D.steps
-            self.old self.new call.now (replied reply)) }
+        ensures ok { IfOk result (λ given. TakesCall R.stands R.failed R.journal R.sent D.steps
+            self.old self.new call.now (given_by given)) }
+        ensures issued { IfOk result (λ given. IsIssued R.stands R.failed D.steps
+            self.old self.new call.now (given_by given)) }
+        ensures asked { IfOk result (λ given. is_some given ≡ is_answering call.now) }
         ensures err { OnErr result (RefusesCall R.stands R.failed R.journal R.sent D.steps
             self.old self.new call.now) }
         ensures idle { self.old.refused ≡ true → IsErr result × (self.new ≡ self.old) }
@@ -144,12 +150,12 @@ impl<D: Driver, R: Rail<D>> Front<D, R> {
         }
         let look = self.look(call);
         match &look.becomes {
-            Becomes::Defer { pieces, slots } => {
-                self.put_off(rt, call, pieces, *slots, look.fault);
-                Ok(Reply::Nothing)
+            Becomes::Defer { pieces, heading } => {
+                self.put_off(rt, call, pieces, *heading, look.fault);
+                Ok(None)
             }
-            Becomes::Answer(number) => Ok(self.answer(call, *number)),
-            Becomes::Sync => self.synchronise(rt, call, look.fault),
+            Becomes::Answer(number) => Ok(Some(self.answer(call, *number))),
+            Becomes::Sync { asks } => self.synchronise(rt, call, *asks, look.fault),
         }
     }
 
@@ -159,7 +165,8 @@ impl<D: Driver, R: Rail<D>> Front<D, R> {
         ensures number { number_in result.becomes ≡ number_asked self.now.tracked call.now }
         ensures pieces { Captures result.becomes
             (pieces_of self.now.tracked call.now (memory_of self.now.memory)) }
-        ensures slots { CountsSlots result.becomes call.now self.now.memory }
+        ensures heading { HasHeading result.becomes call.now self.now.memory }
+        ensures asks { asks_in result.becomes ≡ is_answering call.now }
         ensures fault { result.fault ≡ fault_of self.now.tracked call.now }
         ensures in_range { IsInRange call.now }
     {
@@ -195,27 +202,27 @@ impl<D: Driver, R: Rail<D>> Front<D, R> {
     {
         let look = self.look(call);
         match &look.becomes {
-            Becomes::Defer { pieces, slots } => {
-                self.put_off(rt, call, pieces, *slots, look.fault);
+            Becomes::Defer { pieces, heading } => {
+                self.put_off(rt, call, pieces, *heading, look.fault);
             }
-            Becomes::Answer(_) | Becomes::Sync => unreachable!(),
+            Becomes::Answer(_) | Becomes::Sync { .. } => unreachable!(),
         }
     }
 
-    /// Puts a call into a batch with the pieces that are captured for it, in so many slots, and notes it.
+    /// Puts a call into a batch with the pieces that are captured for it, its spelling having this heading, and notes it.
     fn put_off<T: Threads + Sync>(
         &mut self,
         rt: &T,
         call: &Call,
         pieces: &Pieces,
-        slots: u64,
+        heading: Heading,
         fault: Option<GlError>,
     )
         requires in_range { IsInRange call.now }
         requires class { class_at self.old call.now ≡ Defer }
         requires pieces { pieces.now
             ≡ pieces_of self.old.tracked call.now (memory_of self.old.memory) }
-        requires slots { slots ≡ slots_of (captured call.now pieces.now self.old.memory) }
+        requires heading { IsHeadingOf heading (captured call.now pieces.now self.old.memory) }
         requires fault { fault ≡ fault_of self.old.tracked call.now }
         requires deferred { CanRise self.old.counts.deferred }
         requires batches { CanRise self.old.counts.batches }
@@ -232,30 +239,33 @@ impl<D: Driver, R: Rail<D>> Front<D, R> {
             call,
             pieces,
             &self.memory,
-            slots,
+            heading,
         );
         self.counts.deferred += 1;
         self.counts.batches += sent;
         self.shadow.note(call, &self.memory, fault);
     }
 
-    /// Has all calls before a call carried out, and then it.
+    /// Has all calls before a call carried out, and then it. Gives its reply where it asks for something.
     fn synchronise<T: Threads + Sync>(
         &mut self,
         rt: &T,
         call: &Call,
+        asks: bool,
         fault: Option<GlError>,
-    ) -> Result<Reply, NoMemory>
+    ) -> Result<Option<Reply>, NoMemory>
         requires in_range { IsInRange call.now }
         requires class { class_at self.old call.now ≡ Sync }
+        requires asks { asks ≡ is_answering call.now }
         requires fault { fault ≡ fault_of self.old.tracked call.now }
         requires synchronised { CanRise self.old.counts.synchronised }
         requires batches { CanRise self.old.counts.batches }
         requires sent { CanRise (R.sent self.old.rail) }
-        ensures ok { IfOk result (λ reply. TakesCall R.stands R.failed R.journal R.sent D.steps
-            self.old self.new call.now (replied reply)) }
-        ensures waited { IfOk result (λ reply. HasWaited R.stands R.failed D.steps
-            self.old self.new call.now (replied reply)) }
+        ensures ok { IfOk result (λ given. TakesCall R.stands R.failed R.journal R.sent D.steps
+            self.old self.new call.now (given_by given)) }
+        ensures waited { IfOk result (λ given. HasWaited R.stands R.failed D.steps
+            self.old self.new call.now (given_by given)) }
+        ensures asked { IfOk result (λ given. is_some given ≡ asks) }
         ensures err { OnErr result (RefusesCall R.stands R.failed R.journal R.sent D.steps
             self.old self.new call.now) }
         ensures rises { KeepsCount R.sent self.old self.new }
@@ -266,8 +276,7 @@ impl<D: Driver, R: Rail<D>> Front<D, R> {
         match carried {
             Ok(reply) => {
                 self.counts.synchronised += 1;
-                take_reply(&mut self.shadow, &mut self.memory, call, &reply, fault);
-                Ok(reply)
+                Ok(take_reply(&mut self.shadow, &mut self.memory, call, asks, reply, fault))
             }
             Err(refusal) => {
                 self.refused = true;
@@ -339,23 +348,30 @@ impl<D: Driver, R: Rail<D>> Front<D, R> {
     }
 }
 
-/// Notes a call that gave nothing, with its error, or writes the reply of one that asks for something into client memory:
-/// the tracked state stays there.
+/// Takes what a call replied that waited. The reply of one that asks for something is written into client memory, and given:
+/// the tracked state stays there. One that asks for nothing is noted, with its error.
 #[tactic(auto, unfolding(driver_trait::specs::Output::memory_after))]
 fn take_reply(
     shadow: &mut Shadow,
     memory: &mut ClientMemory,
     call: &Call,
-    reply: &Reply,
+    asks: bool,
+    reply: Reply,
     fault: Option<GlError>,
-)
+) -> Option<Reply>
+    requires asks { asks ≡ is_answering call.now }
     requires fault { fault ≡ fault_of shadow.old call.now }
-    requires silent { is_answering call.now ≡ false → replied reply.now ≡ Nothing }
+    requires silent { is_answering call.now ≡ false → replied reply ≡ Nothing }
+    ensures given { given_by result ≡ replied reply }
+    ensures asked { is_some result ≡ asks }
     ensures tracked { shadow.new ≡ tracked_after shadow.old call.now (memory_of memory.old) }
-    ensures memory { memory.new ≡ memory_after shadow.old call.now (replied reply.now) memory.old }
+    ensures memory { memory.new ≡ memory_after shadow.old call.now (replied reply) memory.old }
 {
-    match reply {
-        Reply::Nothing => shadow.note(call, memory, fault),
-        _ => write_reply(memory, shadow.tracked(), call, reply),
+    if asks {
+        write_reply(memory, shadow.tracked(), call, &reply);
+        Some(reply)
+    } else {
+        shadow.note(call, memory, fault);
+        None
     }
 }

@@ -6,7 +6,7 @@ ghost use Rattle.client_shadow.specs.declared.class.Class.TheVariants.{Defer};
 ghost use Rattle.batch_pack.specs.Batch.{captured, empty_batch};
 ghost use Rattle.client_shadow.specs.Flush.{is_flush};
 ghost use Rattle.client_shadow.specs.Cutting.{batch_unless_empty, joined, cut_before, ended_by, open_by};
-ghost use Rattle.batch_pack.specs.Spelling.{slots_of};
+ghost use Rattle.batch_pack.specs.Heading.{IsHeadingOf};
 ghost use Rattle.batch_rail.specs.Run.{RunsFrom};
 ghost use Rattle.batch_rail.specs.Rail.{Gains, StandsForNoMore};
 ghost use Rattle.driver_trait.specs.Reply.{replied};
@@ -14,7 +14,7 @@ ghost use Rattle.gl_memory.specs.ClientMemory.{memory_of};
 ghost use Rattle.gl_front.specs.Front.{FailsOnlyBy};
 ghost use Rattle.gl_front.specs.FrontState.{open_calls, IsReady};
 
-use batch_pack::Batch;
+use batch_pack::{Batch, Heading};
 use batch_rail::Rail;
 use client_shadow::sends_batch;
 use driver_trait::{Driver, Reply};
@@ -61,11 +61,11 @@ fn put_behind<T: Threads + Sync, D: Driver, R: Rail<D>>(
     call: &Call,
     pieces: &Pieces,
     memory: &ClientMemory,
-    slots: u64,
+    heading: Heading,
 ) -> (Batch, u64)
     requires home { R.home rail.old }
-    requires slots { slots ≡ slots_of (captured call.now pieces.now memory.now) }
-    requires fits { slots ≤ batch.size }
+    requires heading { IsHeadingOf heading (captured call.now pieces.now memory.now) }
+    requires fits { heading.slots ≤ batch.size }
     requires size { batch.size ≡ R.size rail.old }
     requires room { R.sent rail.old < 2 ^ 62 }
     ensures kept { cut_before batch.size batch.calls (captured call.now pieces.now memory.now) ≡ []
@@ -89,12 +89,12 @@ fn put_behind<T: Threads + Sync, D: Driver, R: Rail<D>>(
         (cut_before batch.size batch.calls (captured call.now pieces.now memory.now)) }
 {
     let mut batch = batch;
-    if slots <= u64::from(batch.left()) {
-        batch.pack(call, pieces, memory, slots);
+    if heading.slots <= u64::from(batch.left()) {
+        batch.pack(call, pieces, memory, heading);
         return (batch, 0);
     }
     let (mut next, count) = submit_unless_empty(rt, rail, batch);
-    next.pack(call, pieces, memory, slots);
+    next.pack(call, pieces, memory, heading);
     (next, count)
 }
 
@@ -141,10 +141,10 @@ fn put_off_and_submit<T: Threads + Sync, D: Driver, R: Rail<D>>(
     call: &Call,
     pieces: &Pieces,
     memory: &ClientMemory,
-    slots: u64,
+    heading: Heading,
 ) -> (Batch, u64)
-    requires slots { slots ≡ slots_of (captured call.now pieces.now memory.now) }
-    requires fits { slots ≤ batch.size }
+    requires heading { IsHeadingOf heading (captured call.now pieces.now memory.now) }
+    requires fits { heading.slots ≤ batch.size }
     requires home { R.home rail.old }
     requires size { batch.size ≡ R.size rail.old }
     requires room { R.sent rail.old < 2 ^ 62 - 1 }
@@ -167,7 +167,7 @@ fn put_off_and_submit<T: Threads + Sync, D: Driver, R: Rail<D>>(
     ensures journal { Gains (R.journal rail.old) (R.journal rail.new)
         (ended_by Defer batch.size batch.calls (captured call.now pieces.now memory.now)) }
 {
-    let (batch, before) = put_behind(rt, rail, batch, call, pieces, memory, slots);
+    let (batch, before) = put_behind(rt, rail, batch, call, pieces, memory, heading);
     let (batch, behind) = submit_if_sent(rt, rail, batch, call);
     (batch, before + behind)
 }
@@ -181,10 +181,10 @@ pub fn put_off<T: Threads + Sync, D: Driver, R: Rail<D>>(
     call: &Call,
     pieces: &Pieces,
     memory: &ClientMemory,
-    slots: u64,
+    heading: Heading,
 ) -> u64
-    requires slots { slots ≡ slots_of (captured call.now pieces.now memory.now) }
-    requires fits { slots ≤ R.size rail.old }
+    requires heading { IsHeadingOf heading (captured call.now pieces.now memory.now) }
+    requires fits { heading.slots ≤ R.size rail.old }
     requires ready { IsReady (R.home rail.old) (R.size rail.old) open_batch.old }
     requires room { R.sent rail.old < 2 ^ 62 - 1 }
     ensures kept { ended_by Defer (R.size rail.old) (open_calls open_batch.old)
@@ -210,14 +210,14 @@ pub fn put_off<T: Threads + Sync, D: Driver, R: Rail<D>>(
     let Some(batch) = open_batch else {
         return 0;
     };
-    if slots <= u64::from(batch.left()) && !sends_batch(call) {
-        batch.pack(call, pieces, memory, slots);
+    if heading.slots <= u64::from(batch.left()) && !sends_batch(call) {
+        batch.pack(call, pieces, memory, heading);
         return 0;
     }
     let Some(batch) = open_batch.take() else {
         return 0;
     };
-    let (batch, sent) = put_off_and_submit(rt, rail, batch, call, pieces, memory, slots);
+    let (batch, sent) = put_off_and_submit(rt, rail, batch, call, pieces, memory, heading);
     *open_batch = Some(batch);
     sent
 }

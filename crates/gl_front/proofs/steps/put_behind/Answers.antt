@@ -9,24 +9,24 @@ use Rattle.gl_front.proofs.Cuttings.{packed_behind, packed_alone, fits_emptied}
 use Rattle.gl_front.proofs.Failures.{FailsOnlyBy-along}
 use Rattle.gl_front.proofs.steps.put_behind.Goals as goal
 
-pub returns-then-slots-from-clause-calls : goal.returns-then-slots-from-clause-calls
-returns-then-slots-from-clause-calls g c =
+pub returns-then-heading-from-clause-calls : goal.returns-then-heading-from-clause-calls
+returns-then-heading-from-clause-calls g c =
     let fits : slots_of (captured c.args.call.now c.args.pieces.now c.args.memory.now) ≤ slots_left c.args.batch = omega arith in
     packed_behind c.args.batch c.pack.new.self (captured c.args.call.now c.args.pieces.now c.args.memory.now) c.pack.ensures fits
 
-pub returns-then-slots-from-clause-count : goal.returns-then-slots-from-clause-count
-returns-then-slots-from-clause-count g c =
+pub returns-then-heading-from-clause-count : goal.returns-then-heading-from-clause-count
+returns-then-heading-from-clause-count g c =
     let fits : slots_of (captured c.args.call.now c.args.pieces.now c.args.memory.now) ≤ slots_left c.args.batch = omega arith in
     ap length (sym (cut_before-fits c.args.batch.size c.args.batch.calls (captured c.args.call.now c.args.pieces.now c.args.memory.now) fits))
 
-pub returns-then-slots-from-clause-journal : goal.returns-then-slots-from-clause-journal
-returns-then-slots-from-clause-journal g c =
+pub returns-then-heading-from-clause-journal : goal.returns-then-heading-from-clause-journal
+returns-then-heading-from-clause-journal g c =
     let fits : slots_of (captured c.args.call.now c.args.pieces.now c.args.memory.now) ≤ slots_left c.args.batch = omega arith in
     Gains-none _ _ (cut_before-fits c.args.batch.size c.args.batch.calls (captured c.args.call.now c.args.pieces.now c.args.memory.now) fits)
 
 pub pack-requires-2-clause-fits : goal.pack-requires-2-clause-fits
 pack-requires-2-clause-fits g c =
-    fits_emptied c.args.batch.size c.args.slots c.submit_unless_empty-next.result.0 (captured c.args.call.now c.args.pieces.now c.args.memory.now) c.submit_unless_empty-next.ensures.empty c.requires.slots c.requires.fits
+    fits_emptied c.args.batch.size c.args.heading.slots c.submit_unless_empty-next.result.0 (captured c.args.call.now c.args.pieces.now c.args.memory.now) c.submit_unless_empty-next.ensures.empty c.requires.heading.slots c.requires.fits
 
 pub returns-clause-calls : goal.returns-clause-calls
 returns-clause-calls g c =

@@ -15,16 +15,16 @@ use Rattle.gl_front.proofs.Fronts.{carries_put_off, knows_on}
 use Rattle.gl_front.proofs.Takings.{counts_after-defer}
 use Rattle.gl_front.proofs.front.Front.put_off.Goals as goal
 
-pub put_off-sent-requires-clause-slots : goal.put_off-sent-requires-clause-slots
-put_off-sent-requires-clause-slots g c κs live = rw (← c.self.view_is) at c.requires.slots
+pub put_off-sent-requires-clause-heading : goal.put_off-sent-requires-clause-heading
+put_off-sent-requires-clause-heading g c κs live = rw (← c.self.view_is) at c.requires.heading
 
 pub put_off-sent-requires-clause-fits : goal.put_off-sent-requires-clause-fits
 put_off-sent-requires-clause-fits g c κs live =
     let class = rw (← c.self.view_is) at c.requires.class in
     let are = rw (← c.self.view_is) at c.requires.pieces in
-    let counted = rw (← c.self.view_is) at c.requires.slots in
+    let heading = rw (← c.self.view_is) at c.requires.heading in
     let short = captured-short c.self.inside.shadow c.args.call.now c.self.inside.memory (g.R.RailState.size c.self.inside.rail) c.args.pieces.now are class in
-    omega (arith, counted, short)
+    omega (arith, heading.slots, short)
 
 pub invariant_of-self : goal.invariant_of-self
 invariant_of-self g c =

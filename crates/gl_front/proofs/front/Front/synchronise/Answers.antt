@@ -23,17 +23,17 @@ returns-in-Ok-clause-ok g c =
     let flushes = rw (← c.self-2.view_is) at c.flush.ensures.flushed in
     let at_once = rw c.in-Ok.is at c.carry_out-carried.ensures.ok in
     let sound = rw c.in-Ok.is at c.carry_out-carried.ensures.sound in
-    takes-sync g.R.RailState.stands g.D.Machine.tracked g.R.RailState.failed g.R.RailState.journal g.R.RailState.sent g.D.Machine.steps c.args.self.now _ c.args.call.now (replied c.in-Ok.reply) c.requires.class flushes
+    rw c.take_reply.ensures.given (takes-sync g.R.RailState.stands g.D.Machine.tracked g.R.RailState.failed g.R.RailState.journal g.R.RailState.sent g.D.Machine.steps c.args.self.now _ c.args.call.now (replied c.in-Ok.reply) c.requires.class flushes
     c.carry_out-carried.new.rail (g.R.RailState.size c.carry_out-carried.new.rail) c.take_reply.new.shadow c.take_reply.new.memory at_once
-    c.carry_out-carried.ensures.journal c.carry_out-carried.ensures.sent sound c.carry_out-carried.ensures.size c.take_reply.ensures.tracked c.take_reply.ensures.memory
+    c.carry_out-carried.ensures.journal c.carry_out-carried.ensures.sent sound c.carry_out-carried.ensures.size c.take_reply.ensures.tracked c.take_reply.ensures.memory)
 
 pub returns-in-Ok-clause-waited : goal.returns-in-Ok-clause-waited
 returns-in-Ok-clause-waited g c =
     let flushes = rw (← c.self-2.view_is) at c.flush.ensures.flushed in
     let replies = rw c.in-Ok.is at c.carry_out-carried.ensures.replied in
     let sound = rw c.in-Ok.is at c.carry_out-carried.ensures.sound in
-    waits-sync g.R.RailState.stands g.D.Machine.tracked g.R.RailState.failed g.R.RailState.journal g.R.RailState.sent g.D.Machine.steps c.args.self.now _ c.args.call.now (replied c.in-Ok.reply) c.requires.class flushes
-    c.carry_out-carried.new.rail replies sound _ refl
+    rw c.take_reply.ensures.given (waits-sync g.R.RailState.stands g.D.Machine.tracked g.R.RailState.failed g.R.RailState.journal g.R.RailState.sent g.D.Machine.steps c.args.self.now _ c.args.call.now (replied c.in-Ok.reply) c.requires.class flushes
+    c.carry_out-carried.new.rail replies sound _ refl)
 
 pub invariant_of-self : goal.invariant_of-self
 invariant_of-self g c =
