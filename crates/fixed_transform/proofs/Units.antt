@@ -1,5 +1,5 @@
 -- What is left of a sum of four products where three of them are with zero, and what one is by the fixed number 1.
-use Rattle.std.proofs.Common.{◌≡◌, ℕ, suc, sym, ◌+◌, ◌-◌, ◌^◌, ◌<◌, ◌≤◌, ℤ, pos, negsuc, ◌+ℤ◌, ◌*ℤ◌, SFits, w32, min, ap, ◌∙◌, arith}
+use Rattle.std.proofs.Common.{◌≡◌, sym, ℤ, pos, negsuc, ◌+ℤ◌, ◌*ℤ◌, SFits, w32, ap, ◌∙◌, arith}
 use Rattle.std.proofs.Math.Nat.{min-eq_left}
 use Rattle.std.proofs.lemmas.Int.{ints}
 use Rattle.fixed_transform.specs.Fixed.{clamp_i32, fx}

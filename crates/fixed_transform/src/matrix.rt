@@ -119,8 +119,8 @@ impl Matrix {
         let kept = &self.values;
         Matrix {
             values: [
-                kept[0], kept[1], kept[2], kept[3], kept[4], kept[5], kept[6], kept[7], kept[8], kept[9],
-                kept[10], kept[11], last[0], last[1], last[2], last[3],
+                kept[0], kept[1], kept[2], kept[3], kept[4], kept[5], kept[6], kept[7], kept[8],
+                kept[9], kept[10], kept[11], last[0], last[1], last[2], last[3],
             ],
         }
     }

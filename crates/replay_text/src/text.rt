@@ -114,7 +114,8 @@ fn write_answer(
     bytes.push(b' ')?;
     bytes.extend_from_slice(name.as_bytes())?;
     write_integers(bytes, numbers)?;
-    bytes.push(b'\n')
+    bytes.push(b'\n')?;
+    Ok(())
 }
 
 /// Appends integers, each behind a space. NoMemory leaves the bytes that were there, and may leave some of the integers.

@@ -1,7 +1,7 @@
-use Rattle.std.proofs.Common.{rules, ◌≡◌, ◌<◌, ℕ, ◌+◌, ◌-◌, ◌*◌, ◌≤◌, length, List, [], ◌∷◌, refl, ap, sym, ◌∙◌, slice_index_or, w32, ℤ, pos, ◌+ℤ◌, ◌*ℤ◌, to_z, of_z, get_or}
+use Rattle.std.proofs.Common.{rules, refl, ap, ◌∙◌, w32, ℤ, ◌*ℤ◌, to_z, of_z}
 use Rattle.std.proofs.lemmas.Int.{to_z-of_z}
 use Rattle.fixed_transform.specs.Fixed.{fx}
-use Rattle.fixed_transform.specs.Matrix.{column_by, entry}
+use Rattle.fixed_transform.specs.Matrix.{entry}
 use Rattle.fixed_transform.proofs.Matrices.{cons_four}
 use Rattle.fixed_transform.proofs.matrix.Matrix.column_by.Goals as goal
 

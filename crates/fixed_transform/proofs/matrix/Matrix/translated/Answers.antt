@@ -1,4 +1,4 @@
-use Rattle.std.proofs.Common.{rules, ◌≡◌, ◌<◌, ℕ, ◌+◌, ◌-◌, ◌*◌, ◌≤◌, length, List, [], ◌∷◌, refl, ap, sym, ◌∙◌, slice_index_or, w32, ℤ, pos, ◌+ℤ◌, ◌*ℤ◌, to_z, of_z, get_or}
+use Rattle.std.proofs.Common.{rules, ◌≡◌, List, [], ◌∷◌, refl, ap, ◌∙◌, w32, ℤ, pos, get_or}
 use Rattle.std.proofs.lemmas.Int.{to_z-of_z}
 use Rattle.fixed_transform.specs.Matrix.{entry, image, image_part, of_values, product, product_entry, translation_of}
 use Rattle.fixed_transform.proofs.Matrices.{cons_four}
