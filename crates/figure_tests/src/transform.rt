@@ -2,7 +2,7 @@
 //! What a contract says of every matrix isn't tried here.
 
 use fixed_transform::laws::{floor_law, root_law};
-use fixed_transform::{Bottom, Full, Matrix, Stack, scaling, translation};
+use fixed_transform::{Bottom, Full, Matrix, Stack};
 use std::process::Abort;
 
 /// Two matrices, and the first times the second.
@@ -229,7 +229,7 @@ fn a_call_multiplies_from_the_right(rt: HostRuntime) {
         65536, 131072, 196608, 262144, 327680, 393216, 458752, 524288, 589824, 655360, 720896,
         786432, 851968, 917504, 983040, 1048576,
     ]);
-    let moved = current.multiply(&translation(3, -327680, -2147483648));
+    let moved = current.translated(3, -327680, -2147483648);
     assert_eq!(rt;
         moved,
         Matrix::from_values([
@@ -251,7 +251,7 @@ fn a_call_multiplies_from_the_right(rt: HostRuntime) {
             -2147483648
         ])
     );
-    let moved = current.multiply(&translation(2147483647, 1, -1));
+    let moved = current.translated(2147483647, 1, -1);
     assert_eq!(rt;
         moved,
         Matrix::from_values([
@@ -259,7 +259,7 @@ fn a_call_multiplies_from_the_right(rt: HostRuntime) {
             786432, 2147483647, 2147483647, 2147483647, 2147483647
         ])
     );
-    let scaled = current.multiply(&scaling(2147483647, -3, 32768));
+    let scaled = current.scaled(2147483647, -3, 32768);
     assert_eq!(rt;
         scaled,
         Matrix::from_values([
@@ -267,7 +267,7 @@ fn a_call_multiplies_from_the_right(rt: HostRuntime) {
             360448, 393216, 851968, 917504, 983040, 1048576
         ])
     );
-    let scaled = current.multiply(&scaling(-2147483648, 0, -65536));
+    let scaled = current.scaled(-2147483648, 0, -65536);
     assert_eq!(rt;
         scaled,
         Matrix::from_values([
@@ -295,7 +295,7 @@ fn a_call_multiplies_from_the_right(rt: HostRuntime) {
 
 /// A matrix that no other one of these tests is equal to.
 fn numbered(number: i32) -> Matrix {
-    translation(number, 0, 0)
+    Matrix::identity().translated(number, 0, 0)
 }
 
 /// A full stack of the matrices 1, 2 and 3, the last of them on top.

@@ -6,3 +6,4 @@ pub mod Axes
 pub mod Greatest
 pub mod Turns
 pub mod Stacks
+pub mod Units

@@ -19,6 +19,10 @@ entry m row column = value_at m (4 * column + row)
 abbrev pub column_of : Matrix → ℕ → List ℤ
 column_of m column = entry m 0 column ∷ entry m 1 column ∷ entry m 2 column ∷ entry m 3 column ∷ []
 
+-- the four numbers of a column, each multiplied by a number
+abbrev pub column_by : Matrix → ℕ → ℤ → List ℤ
+column_by m column by = fx (entry m 0 column *ℤ by) ∷ fx (entry m 1 column *ℤ by) ∷ fx (entry m 2 column *ℤ by) ∷ fx (entry m 3 column *ℤ by) ∷ []
+
 -- the matrix with these numbers in its rows and columns
 abbrev pub with_entries : (ℕ → ℕ → ℤ) → Matrix
 with_entries f =

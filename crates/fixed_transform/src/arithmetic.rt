@@ -26,6 +26,13 @@ pub fn fixed(a: i64, b: i64, c: i64, d: i64) -> i32
     clamped(wholes + i64::from(rests / 65536))
 }
 
+/// The product of two 16.16 fixed numbers as a 16.16 fixed number.
+pub fn fixed_product(a: i32, b: i32) -> i32
+    ensures { result ≡ fx (a *ℤ b) }
+{
+    clamped(whole(product(a, b)))
+}
+
 /// The sum of four numbers.
 fn total(a: i64, b: i64, c: i64, d: i64) -> i64
     requires a { IsWithin (2 ^ 46) a }

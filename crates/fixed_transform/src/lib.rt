@@ -6,13 +6,11 @@ mod arithmetic;
 mod axis;
 pub mod laws;
 mod matrix;
-mod placing;
 mod projection;
 mod stack;
 mod turning;
 
 pub use matrix::Matrix;
-pub use placing::{scaling, translation};
 pub use projection::{frustum, ortho};
 pub use stack::{Bottom, Full, Stack};
 pub use turning::rotation;

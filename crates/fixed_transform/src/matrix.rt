@@ -1,9 +1,9 @@
 //! Matrices of four rows and four columns, and their products.
 
 ghost use Rattle.std.specs.Prelude.{◌≡◌, ◌<◌};
-ghost use Rattle.fixed_transform.specs.Matrix.{column_of, entry, identity, image, image_part, of_values, product, value_at};
+ghost use Rattle.fixed_transform.specs.Matrix.{column_by, column_of, entry, identity, image, image_part, of_values, product, scaling_of, translation_of, value_at};
 
-use crate::arithmetic::{fixed, product};
+use crate::arithmetic::{fixed, fixed_product, product};
 
 /// A matrix of 16 numbers of 16.16 fixed, by columns. Section 2.10.2 of OpenGL ES 1.1.12.
 #[derive(Clone, Copy, Debug, PartialEq, Eq)]
@@ -108,5 +108,50 @@ impl Matrix {
                 three[2], three[3], four[0], four[1], four[2], four[3],
             ],
         }
+    }
+
+    /// This matrix times that of Translatex by x, y, z (16.16 fixed), which stands on the right: only its last column
+    /// changes. Section 2.10.2 of OpenGL ES 1.1.12, the rounding own.
+    pub fn translated(&self, x: i32, y: i32, z: i32) -> Matrix
+        ensures { result ≡ product self.now (translation_of x y z) }
+    {
+        let last = self.apply([x, y, z, 65536]);
+        let kept = &self.values;
+        Matrix {
+            values: [
+                kept[0], kept[1], kept[2], kept[3], kept[4], kept[5], kept[6], kept[7], kept[8],
+                kept[9], kept[10], kept[11], last[0], last[1], last[2], last[3],
+            ],
+        }
+    }
+
+    /// This matrix times that of Scalex by x, y, z (16.16 fixed), which stands on the right: each of its first three
+    /// columns is multiplied. Section 2.10.2 of OpenGL ES 1.1.12, the rounding own.
+    pub fn scaled(&self, x: i32, y: i32, z: i32) -> Matrix
+        ensures { result ≡ product self.now (scaling_of x y z) }
+    {
+        let one = self.column_by(0, x);
+        let two = self.column_by(1, y);
+        let three = self.column_by(2, z);
+        let four = self.column(3);
+        Matrix {
+            values: [
+                one[0], one[1], one[2], one[3], two[0], two[1], two[2], two[3], three[0], three[1],
+                three[2], three[3], four[0], four[1], four[2], four[3],
+            ],
+        }
+    }
+
+    /// One column, each of its numbers multiplied (16.16 fixed).
+    fn column_by(&self, column: usize, by: i32) -> [i32; 4]
+        requires { column < 4 }
+        ensures { result ≡ column_by self.now column by }
+    {
+        [
+            fixed_product(self.entry(0, column), by),
+            fixed_product(self.entry(1, column), by),
+            fixed_product(self.entry(2, column), by),
+            fixed_product(self.entry(3, column), by),
+        ]
     }
 }

@@ -2,12 +2,13 @@
 
 ghost use Rattle.std.specs.Prelude.{◌≡◌, ◌≢◌, ◌∷◌, length, List, None, true};
 ghost use Rattle.gl_memory.specs.Segment.{Segment};
+ghost use Rattle.fixed_transform.specs.Matrix.{scaling_of, translation_of};
 ghost use Rattle.fixed_transform.specs.Stack.{top_of, below_top};
 ghost use Rattle.gl_tracked.specs.Fault.{fault_of};
 ghost use Rattle.gl_state.specs.Stacks.{first_stacks, current_of, with_current, most_of, depths_of};
 ghost use Rattle.gl_state.specs.Step.{is_product, stacks_set_by, with_product};
 
-use fixed_transform::{Matrix, Stack, frustum, ortho, rotation, scaling, translation};
+use fixed_transform::{Matrix, Stack, frustum, ortho, rotation};
 use gl_tracked::Tracked;
 use gl_words::Call;
 use std::marker::Model;
@@ -121,6 +122,26 @@ impl Stacks {
         self.set_top(tracked.matrix_mode, tracked.active, product);
     }
 
+    /// Multiplies the current matrix by that of Scalex.
+    fn scale(&mut self, tracked: &Tracked, x: i32, y: i32, z: i32)
+        ensures { self.new ≡ with_product (scaling_of x y z) tracked.now self.old }
+    {
+        let scaled = self
+            .top(tracked.matrix_mode, tracked.active)
+            .scaled(x, y, z);
+        self.set_top(tracked.matrix_mode, tracked.active, scaled);
+    }
+
+    /// Multiplies the current matrix by that of Translatex.
+    fn translate(&mut self, tracked: &Tracked, x: i32, y: i32, z: i32)
+        ensures { self.new ≡ with_product (translation_of x y z) tracked.now self.old }
+    {
+        let translated = self
+            .top(tracked.matrix_mode, tracked.active)
+            .translated(x, y, z);
+        self.set_top(tracked.matrix_mode, tracked.active, translated);
+    }
+
     /// Sets what a call without an error sets, where tracked state knows how deep the stacks are.
     #[tactic(auto, unfolding(crate::specs::Step::stacks_set_by))]
     pub(crate) fn set(&mut self, tracked: &Tracked, call: &Call)
@@ -177,8 +198,8 @@ impl Stacks {
             Call::Rotatex { angle, x, y, z } => {
                 self.multiply(tracked, &rotation(*angle, *x, *y, *z));
             }
-            Call::Scalex { x, y, z } => self.multiply(tracked, &scaling(*x, *y, *z)),
-            Call::Translatex { x, y, z } => self.multiply(tracked, &translation(*x, *y, *z)),
+            Call::Scalex { x, y, z } => self.scale(tracked, *x, *y, *z),
+            Call::Translatex { x, y, z } => self.translate(tracked, *x, *y, *z),
             _ => {}
         }
     }

@@ -1,10 +1,11 @@
 //! The report, line by line. Which lines it has, and in which order, is told elsewhere.
 
-ghost use Rattle.std.specs.Prelude.{◌≡◌, [], ◌++◌, string_bytes, IfOk, OnOk, OnErr};
+ghost use Rattle.std.specs.Prelude.{◌≡◌, [], ◌++◌, length, take, string_bytes, IfOk, OnOk, OnErr};
 ghost use Rattle.gl_words.specs.Call.{name_of};
 ghost use Rattle.replay_text.specs.Text.{answer_line, counts_line, integers_text, number_line, numbers_text, plain_line};
 
 use gl_words::{Call, call_name};
+use itoa::Buffer;
 use std::alloc::{AllocError as NoMemory, Global};
 use std::marker::Model;
 
@@ -12,15 +13,15 @@ use std::marker::Model;
 #[derive(Drop)]
 pub struct Text {
     alloc: Global,
-    bytes: String,
+    bytes: Vec<u8>,
 }
 
 impl Model for Text {
-    ghost use Rattle.std.specs.Prelude.{ℕ, List, string_bytes};
+    ghost use Rattle.std.specs.Prelude.{ℕ, List};
 
     ghost Value = { List ℕ };
 
-    ghost view = { λ text. string_bytes text.bytes };
+    ghost view = { λ text. text.bytes.items };
 }
 
 impl Text {
@@ -30,7 +31,7 @@ impl Text {
     {
         Text {
             alloc,
-            bytes: String::new(alloc),
+            bytes: Vec::new(alloc),
         }
     }
 
@@ -38,7 +39,7 @@ impl Text {
     pub fn bytes(&self) -> &[u8]
         ensures { result.now ≡ self.now }
     {
-        self.bytes.as_bytes()
+        self.bytes.as_slice()
     }
 
     /// Appends the line of a call's answer: the script line's number, from 1, the context, the call's name, and the
@@ -54,8 +55,12 @@ impl Text {
             ++ answer_line line context (name_of call.now) numbers.now) }
         ensures err { OnErr result (self.new ≡ self.old) }
     {
-        let text = answer_text(self.alloc, line, context, call_name(call), numbers)?;
-        self.bytes.push_str(text.as_str())
+        let kept = self.bytes.len();
+        let written = write_answer(&mut self.bytes, line, context, call_name(call), numbers);
+        if written.is_err() {
+            self.bytes.truncate(kept);
+        }
+        written
     }
 
     /// Appends the line of a context's counts: of calls deferred, synchronised and answered, and of batches. NoMemory
@@ -65,7 +70,7 @@ impl Text {
         ensures err { OnErr result (self.new ≡ self.old) }
     {
         let text = counts_text(self.alloc, context, numbers)?;
-        self.bytes.push_str(text.as_str())
+        self.bytes.extend_from_slice(text.as_bytes())
     }
 
     /// Appends the line of a word and a number. NoMemory leaves the text as it was; own.
@@ -75,7 +80,7 @@ impl Text {
         ensures err { OnErr result (self.new ≡ self.old) }
     {
         let text = format!(in self.alloc; "{word} {value}\n")?;
-        self.bytes.push_str(text.as_str())
+        self.bytes.extend_from_slice(text.as_bytes())
     }
 
     /// Appends a line as it stands. NoMemory leaves the text as it was; own.
@@ -85,35 +90,46 @@ impl Text {
         ensures err { OnErr result (self.new ≡ self.old) }
     {
         let text = format!(in self.alloc; "{line}\n")?;
-        self.bytes.push_str(text.as_str())
+        self.bytes.extend_from_slice(text.as_bytes())
     }
 }
 
+/// Appends the line of a call's answer. NoMemory leaves the bytes that were there, and may leave some of the line.
 #[tactic(auto, unfolding(crate::specs::Text::answer_line))]
-fn answer_text(
-    alloc: Global,
+fn write_answer(
+    bytes: &mut Vec<u8>,
     line: u32,
     context: u32,
     name: &str,
     numbers: &[i64],
-) -> Result<String, NoMemory>
-    ensures { IfOk result (λ text.
-        string_bytes text ≡ answer_line line context name.now numbers.now) }
+) -> Result<(), NoMemory>
+    ensures ok { OnOk result
+        (bytes.new.items ≡ bytes.old.items ++ answer_line line context name.now numbers.now) }
+    ensures kept { take (length bytes.old.items) bytes.new.items ≡ bytes.old.items }
 {
-    let numbers = integers_text(alloc, numbers)?;
-    format!(in alloc; "{line} {context} {name}{numbers}\n")
+    let mut buffer = Buffer::new();
+    bytes.extend_from_slice(buffer.format(line).as_bytes())?;
+    bytes.push(b' ')?;
+    bytes.extend_from_slice(buffer.format(context).as_bytes())?;
+    bytes.push(b' ')?;
+    bytes.extend_from_slice(name.as_bytes())?;
+    write_integers(bytes, numbers)?;
+    bytes.push(b'\n')?;
+    Ok(())
 }
 
+/// Appends integers, each behind a space. NoMemory leaves the bytes that were there, and may leave some of the integers.
 #[tactic(auto, unfolding(crate::specs::Text::integers_text))]
-fn integers_text(alloc: Global, numbers: &[i64]) -> Result<String, NoMemory>
-    ensures { IfOk result (λ text. string_bytes text ≡ integers_text numbers.now) }
+fn write_integers(bytes: &mut Vec<u8>, numbers: &[i64]) -> Result<(), NoMemory>
+    ensures ok { OnOk result (bytes.new.items ≡ bytes.old.items ++ integers_text numbers.now) }
+    ensures kept { take (length bytes.old.items) bytes.new.items ≡ bytes.old.items }
 {
-    let mut text = String::new(alloc);
+    let mut buffer = Buffer::new();
     for number in numbers {
-        let spelled = format!(in alloc; " {number}")?;
-        text.push_str(spelled.as_str())?;
+        bytes.push(b' ')?;
+        bytes.extend_from_slice(buffer.format(*number).as_bytes())?;
     }
-    Ok(text)
+    Ok(())
 }
 
 #[tactic(auto, unfolding(crate::specs::Text::counts_line))]

@@ -1,7 +1,7 @@
-use Rattle.std.proofs.Common.{rules, arith, ap, sym, ◌∙◌, ◌≡◌, ◌^◌, ◌+ℤ◌, ◌*ℤ◌, pos, ℕ, ◌+◌, ◌/◌, w32, w64, ℤ, to_z, of_z}
+use Rattle.std.proofs.Common.{rules, arith, ap, sym, ◌∙◌, ◌≡◌, ◌+ℤ◌, pos, ◌+◌, ◌/◌, w32, w64, ℤ, to_z, of_z}
 use Rattle.std.specs.Int.{int_div_euclid, int_rem_euclid}
 use Rattle.std.proofs.lemmas.Int.{ints, to_z-of_z}
-use Rattle.fixed_transform.specs.Fixed.{IsWithin, clamp_i32, fx}
+use Rattle.fixed_transform.specs.Fixed.{clamp_i32, fx}
 use Rattle.fixed_transform.proofs.Splits.{quotient_of_four, split_by}
 use Rattle.fixed_transform.proofs.arithmetic.fixed.Goals as goal
 
