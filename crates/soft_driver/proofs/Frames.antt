@@ -11,7 +11,7 @@ use Rattle.gl_state.specs.declared.plan.Plan.{Plan}
 use Rattle.gl_state.specs.declared.plan.Plan.TheVariants.{Draw}
 use Rattle.gl_state.specs.Event.{EventReplied}
 use Rattle.gl_state.specs.Private.{PrivateView, first_private}
-use Rattle.gl_state.specs.Step.{fault_in, plan_by, plan_found, plan_of, private_after}
+use Rattle.gl_state.specs.Step.{fault_in, plan_found, plan_of, private_after}
 use Rattle.gl_state.proofs.Stepping.{fault_of-planned}
 use Rattle.soft_driver.specs.Frame.{FrameView, filled, first_frame}
 use Rattle.soft_driver.specs.Own.{AreTied, clears_colour, frame_after}

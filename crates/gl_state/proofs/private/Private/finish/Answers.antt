@@ -1,6 +1,5 @@
-use Rattle.std.proofs.Common.{◌≡◌, Option, None, sym, ap, ◌∙◌}
+use Rattle.std.proofs.Common.{Option, sym, ap, ◌∙◌}
 use Rattle.gl_words.specs.declared.error.GlError.{GlError}
-use Rattle.gl_tracked.specs.Fault.{fault_of}
 use Rattle.gl_state.specs.Event.{event_replied}
 use Rattle.gl_state.specs.Step.{fault_in, private_after}
 use Rattle.gl_state.proofs.Stepping.{fault_of-planned, local-planned, private_after-others, private_after-query}

@@ -7,7 +7,7 @@ use Rattle.gl_state.specs.declared.plan.Plan.TheVariants.{Known, Query, Read}
 use Rattle.gl_state.specs.Event.{event_replied}
 use Rattle.gl_state.specs.Step.{fault_in, private_reply}
 use Rattle.soft_driver.specs.Own.{own_reply}
-use Rattle.soft_driver.proofs.Replies.{own_reply-nothing, own_reply-private, replies_list-room}
+use Rattle.soft_driver.proofs.Replies.{own_reply-nothing, own_reply-private}
 use Rattle.soft_driver.proofs.soft.Soft.reply.Goals as goal
 
 -- what the private state answers reads no pixels
