@@ -8,7 +8,7 @@ ghost use Rattle.gl_tracked.specs.Fault.{fault_of};
 ghost use Rattle.driver_trait.specs.Reply.{replied, Bytes};
 ghost use Rattle.gl_tracked.specs.Tracked.{IsSound};
 ghost use Rattle.gl_state.specs.Private.{AreSides};
-ghost use Rattle.gl_state.specs.Event.{EventReplied, event_replied};
+ghost use Rattle.gl_state.specs.Event.{EventReplied, NoEvent, event_replied};
 ghost use Rattle.gl_state.specs.Step.{fault_in, plan_of, private_reply, room_of};
 ghost use Rattle.soft_driver.specs.Frame.{bytes_read};
 ghost use Rattle.soft_driver.specs.Own.{first_own, frame_after, own_reply, own_step, replies_list, side_of};
@@ -134,6 +134,16 @@ impl Soft {
         let room = self.state.room(self.alloc, plan, call)?;
         Ok(self.state.reply(plan, call, event, room))
     }
+
+    /// Takes the step of a call with its plan, which no longer takes memory. The pixels come first, since they go by the
+    /// private state before the call (section 4.2.3).
+    fn step<M: Memory>(&mut self, plan: Plan, call: &Call, memory: &M)
+        requires plan { plan ≡ plan_of self.old.state call.now }
+        ensures { self.new ≡ (own_step self.old call.now (M.segments memory.now) NoEvent).own }
+    {
+        draw(plan, &self.state, &mut self.frame, call);
+        self.state.finish(plan, call, memory, &EventReply);
+    }
 }
 
 impl Machine for Soft {
@@ -165,8 +175,7 @@ impl Driver for Soft {
         let plan = self.state.plan(call);
         match self.reply(plan, call, &EventReply) {
             Ok(reply) => {
-                draw(plan, &self.state, &mut self.frame, call);
-                self.state.finish(plan, call, memory, &EventReply);
+                self.step(plan, call, memory);
                 Ok(reply)
             }
             Err(refused) => Err(refused),
