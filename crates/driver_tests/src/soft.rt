@@ -168,3 +168,62 @@ fn a_context_starts_at_each_side(rt: HostRuntime) -> Result<(), Fail> {
     assert_eq!(rt; largest.pixels().len(), 65536);
     Ok(())
 }
+
+/// Calls that reply no list, those with an error among them.
+const WITHOUT_LISTS: &str = "\
+ActiveTexture 33985
+Clear 16384
+Clear 17664
+Clear 1
+ClearColorx 65536 0 0 65536
+ClientActiveTexture 33985
+ColorPointer 4 5121 0 0
+DisableClientState 32884
+EnableClientState 32884
+Finish
+Flush
+Frustumx -65536 65536 -65536 65536 65536 131072
+GetError
+GetFixedv 2931 0
+GetFixedv 2976 0
+GetIntegerv 2885 0
+GetIntegerv 2976 0
+GetPointerv 32910 0
+IsEnabled 3024
+IsEnabled 32884
+LoadIdentity
+MatrixMode 5889
+NormalPointer 5120 0 0
+Orthox -65536 65536 -65536 65536 -65536 65536
+PixelStorei 3333 1
+PopMatrix
+PushMatrix
+PushMatrix
+PushMatrix
+ReadPixels 0 0 1 1 6407 5121 0
+Rotatex 5898240 0 0 65536
+Scalex 65536 65536 65536
+TexCoordPointer 2 5122 0 0
+Translatex 1 2 3
+VertexPointer 3 5132 0 0
+Viewport 0 0 2 2
+";
+
+// Memory is taken for the frame, and 64 times at the end. So nothing is refused with `--fail-alloc 66`, unless a call takes
+// some, be it only to give it back, or to do without it where it is refused.
+#[test]
+fn only_a_list_takes_memory(rt: HostRuntime) -> Result<(), Fail> {
+    let memory = ClientMemory::new(rt.alloc(), 0)?;
+    let mut soft = Soft::new(rt.alloc(), 0, 2, 2)?;
+    for spelling in WITHOUT_LISTS.lines() {
+        let Some(call) = call_spelled(spelling) else {
+            return Err(Fail::new("no such call"));
+        };
+        let reply = soft.call(&rt, &call, &memory)?;
+        assert!(rt; matches!(reply, Reply::Nothing | Reply::One(_)));
+    }
+    for _ in 0..64 {
+        vec![in rt.alloc(); 0_u8; 1]?;
+    }
+    Ok(())
+}

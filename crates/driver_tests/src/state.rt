@@ -235,13 +235,14 @@ fn a_get_gives_a_matrix_by_columns(rt: HostRuntime) -> Result<(), Fail> {
     Ok(())
 }
 
-// INVALID_VALUE and STACK_UNDERFLOW, as section 4.3.1 and section 2.10.2 say.
+// INVALID_VALUE and STACK_UNDERFLOW, as section 4.3.1 and section 2.10.2 say. 2976 and 2978 are MATRIX_MODE, which is tracked,
+// and VIEWPORT, which isn't; so are 32884 and 3024, VERTEX_ARRAY and DITHER.
 #[test]
-fn only_a_clear_and_a_read_without_error_need_pixels(rt: HostRuntime) -> Result<(), Fail> {
+fn a_plan_has_all_that_is_found_of_a_call(rt: HostRuntime) -> Result<(), Fail> {
     let private = Private::new(0, 4, 4);
-    let rows: [(&str, Plan); 9] = [
-        ("Clear 16640", Plan::Pixels),
-        ("ReadPixels 0 0 512 1 6408 5121 0", Plan::Pixels),
+    let rows: [(&str, Plan); 13] = [
+        ("Clear 16640", Plan::Draw),
+        ("ReadPixels 0 0 512 1 6408 5121 0", Plan::Read),
         (
             "ReadPixels 0 0 513 1 6408 5121 0",
             Plan::Fault(GlError::InvalidValue),
@@ -249,7 +250,11 @@ fn only_a_clear_and_a_read_without_error_need_pixels(rt: HostRuntime) -> Result<
         ("Clear 1", Plan::Fault(GlError::InvalidValue)),
         ("PopMatrix", Plan::Fault(GlError::StackUnderflow)),
         ("GetError", Plan::Query),
-        ("GetPointerv 32910 0", Plan::Query),
+        ("GetIntegerv 2976 0", Plan::Known(5888)),
+        ("GetIntegerv 2978 0", Plan::Query),
+        ("IsEnabled 32884", Plan::Known(0)),
+        ("IsEnabled 3024", Plan::Query),
+        ("GetPointerv 32910 0", Plan::Known(0)),
         ("GetPointerv 32880 0", Plan::Fault(GlError::InvalidEnum)),
         ("LoadIdentity", Plan::Local),
     ];

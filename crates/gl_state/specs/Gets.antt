@@ -1,15 +1,15 @@
--- The numbers that gets give of the private state; section 6.1. Those of tracked state stand in the crate of drivers.
-use Rattle.std.specs.Prelude.{ℕ, ℤ, pos, ◌==◌, false, if◌then◌else◌, List, [], ◌∷◌, slice_index_or, Option, Some, None, unwrap_or}
+-- The numbers that gets give of the private state; section 6.1. Those of its tracked part stand in the crate of tracked state.
+use Rattle.std.specs.Prelude.{ℕ, ℤ, pos, ◌==◌, false, if◌then◌else◌, List, [], ◌∷◌, slice_index_or, Option, unwrap_or}
+use Rattle.std.specs.Map.{lookup}
 use Rattle.std.specs.Option.{option_map, option_or}
-use Rattle.fixed_transform.specs.declared.matrix.Matrix.{Matrix}
 use Rattle.fixed_transform.specs.Stack.{top_of}
-use Rattle.gl_tracked.specs.Gets.{integer_asked, enabled_asked, number_of_truth}
+use Rattle.gl_tracked.specs.Gets.{integer_asked, enabled_asked, number_beside, number_of_truth}
 use Rattle.gl_state.specs.Private.{PrivateView}
+use Rattle.gl_state.specs.Stacks.{current_of}
 
--- what stands beside a name in rows; own
-abbrev pub found_beside : {A : Type 0} → List (ℕ × A) → ℕ → Option A
-found_beside [] name = None
-found_beside ((known, found) ∷ rows) name = if name == known then Some found else found_beside rows name
+-- the list beside a name, in rows of names and lists; own
+abbrev pub list_beside : List (ℕ × List ℤ) → ℕ → Option (List ℤ)
+list_beside rows name = lookup (λ known. name == known) rows
 
 -- a number as a list of it, where there is one; own
 abbrev pub alone : Option ℤ → Option (List ℤ)
@@ -43,26 +43,22 @@ rectangle_rows p = (0x0BA2, p.settings.viewport) ∷ (0x0C10, p.settings.scissor
 unfoldable pub integers_asked : PrivateView → ℕ → Option (List ℤ)
 integers_asked p name =
     option_or (alone (integer_asked p.tracked name))
-    (option_or (alone (found_beside (setting_rows p) name))
-    (option_or (alone (found_beside limit_rows name)) (found_beside (rectangle_rows p) name)))
+    (option_or (alone (number_beside (setting_rows p) name))
+    (option_or (alone (number_beside limit_rows name)) (list_beside (rectangle_rows p) name)))
 
--- the top of the active unit's texture stack; section 2.10.2
-unfoldable pub texture_matrix : PrivateView → Matrix
-texture_matrix p = if p.tracked.active == 0x84C0 then top_of p.stacks.texture_zero else top_of p.stacks.texture_one
-
--- the rows of GetFixedv: CURRENT_COLOR, DEPTH_CLEAR_VALUE, MODELVIEW_MATRIX, PROJECTION_MATRIX, TEXTURE_MATRIX and COLOR_CLEAR_VALUE, matrices by columns; tables 6.4, 6.7 and 6.17
+-- the rows of GetFixedv: CURRENT_COLOR, DEPTH_CLEAR_VALUE, MODELVIEW_MATRIX, PROJECTION_MATRIX, TEXTURE_MATRIX of the active unit and COLOR_CLEAR_VALUE, matrices by columns; tables 6.4, 6.7 and 6.17
 unfoldable pub fixed_rows : PrivateView → List (ℕ × List ℤ)
 fixed_rows p =
     (0x0B00, p.settings.colour) ∷
     (0x0B73, p.settings.clear_depth ∷ []) ∷
     (0x0BA6, (top_of p.stacks.model_view).values) ∷
     (0x0BA7, (top_of p.stacks.projection).values) ∷
-    (0x0BA8, (texture_matrix p).values) ∷
+    (0x0BA8, (top_of (current_of p.stacks 0x1702 p.tracked.active)).values) ∷
     (0x0C22, p.settings.clear_colour) ∷ []
 
 -- what GetFixedv gives for a name, if it takes it; section 6.1.1
 unfoldable pub fixed_asked : PrivateView → ℕ → Option (List ℤ)
-fixed_asked p name = found_beside (fixed_rows p) name
+fixed_asked p name = list_beside (fixed_rows p) name
 
 -- the rows of capabilities, by whether they are enabled: CULL_FACE, DEPTH_TEST, ALPHA_TEST, DITHER, BLEND, SCISSOR_TEST, and TEXTURE_2D of the active unit; tables 6.9, 6.10 and 6.14 to 6.17
 unfoldable pub capability_rows : PrivateView → List (ℕ × ℤ)
@@ -77,7 +73,7 @@ capability_rows p =
 
 -- what IsEnabled gives for a name, if it takes it: an array's flag or a capability's; section 6.1.1
 unfoldable pub truth_asked : PrivateView → ℕ → Option (List ℤ)
-truth_asked p name = alone (option_or (enabled_asked p.tracked name) (found_beside (capability_rows p) name))
+truth_asked p name = alone (option_or (enabled_asked p.tracked name) (number_beside (capability_rows p) name))
 
 -- the names of GetFixedv that give more than one number, and how many: CURRENT_COLOR, the matrices and COLOR_CLEAR_VALUE; section 6.1
 abbrev pub fixed_lists : List (ℕ × ℕ)
@@ -89,8 +85,8 @@ integers_lists = (0x0BA2, 4) ∷ (0x0C10, 4) ∷ []
 
 -- how many numbers GetFixedv gives for a name where they are more than one, else 0; section 6.1
 unfoldable pub fixed_length : ℕ → ℕ
-fixed_length name = unwrap_or (found_beside fixed_lists name) 0
+fixed_length name = unwrap_or (lookup (λ known. name == known) fixed_lists) 0
 
 -- how many numbers GetIntegerv gives for a name where they are more than one, else 0; section 6.1
 unfoldable pub integers_length : ℕ → ℕ
-integers_length name = unwrap_or (found_beside integers_lists name) 0
+integers_length name = unwrap_or (lookup (λ known. name == known) integers_lists) 0

@@ -13,11 +13,11 @@ use Rattle.fixed_transform.specs.Stack.{top_of, below_top}
 use Rattle.gl_tracked.specs.declared.tracked.Tracked.{Tracked}
 use Rattle.gl_tracked.specs.Fault.{fault_of}
 use Rattle.gl_tracked.specs.Gets.{pointer_asked}
-use Rattle.gl_tracked.specs.Step.{set_by}
+use Rattle.gl_tracked.specs.Step.{number_asked, set_by}
 use Rattle.driver_trait.specs.Reply.{Replied, Nothing, Numbers}
 use Rattle.gl_state.specs.declared.settings.Settings.{Settings}
 use Rattle.gl_state.specs.declared.plan.Plan.{Plan}
-use Rattle.gl_state.specs.declared.plan.Plan.TheVariants.{Fault, Local, Pixels, Query}
+use Rattle.gl_state.specs.declared.plan.Plan.TheVariants.{Draw, Fault, Known, Local, Query, Read}
 use Rattle.gl_state.specs.Event.{EventReplied}
 use Rattle.gl_state.specs.Gets.{alone, fixed_asked, fixed_length, integers_asked, integers_length, truth_asked}
 use Rattle.gl_state.specs.Private.{PrivateView}
@@ -101,32 +101,43 @@ private_reply None p (GetPointerv pname params) event = numbers_replied (alone (
 private_reply None p (IsEnabled cap) event = numbers_replied (truth_asked p cap)
 private_reply None p _ event = Nothing
 
--- how many numbers a call with this error, or none, replies as a list, 0 where it replies one number or nothing; section 6.1
-abbrev pub list_length : Option GlError → Call → ℕ
-list_length (Some error) call = 0
-list_length None (GetFixedv pname params) = fixed_length pname
-list_length None (GetIntegerv pname params) = integers_length pname
-list_length None _ = 0
+-- how many numbers a call without an error replies as a list, 0 where it replies one number or nothing; section 6.1
+abbrev pub list_length : Call → ℕ
+list_length (GetFixedv pname params) = fixed_length pname
+list_length (GetIntegerv pname params) = integers_length pname
+list_length _ = 0
 
--- what a call needs beyond the private state, with this error or none: Clear and ReadPixels the pixels of the frame, all others nothing, of which the queries are answered; own
+-- what a call needs beyond the private state, with this error or none, where it asks for no number of tracked state: Clear changes the pixels of the frame, ReadPixels reads them, all others need nothing, of which the queries are answered; own
 abbrev pub plan_by : Option GlError → Call → Plan
 plan_by (Some error) call = Fault error
-plan_by None (Clear mask) = Pixels
+plan_by None (Clear mask) = Draw
 plan_by None GetError = Query
 plan_by None (GetFixedv pname params) = Query
 plan_by None (GetIntegerv pname params) = Query
 plan_by None (GetPointerv pname params) = Query
 plan_by None (IsEnabled cap) = Query
-plan_by None (ReadPixels x y width height format kind pixels) = Pixels
+plan_by None (ReadPixels x y width height format kind pixels) = Read
 plan_by None _ = Local
+
+-- how a call is carried out that asks for this number of tracked state, or for none, with this error or none: a number is its answer; own
+abbrev pub plan_found : Option ℤ → Option GlError → Call → Plan
+plan_found (Some number) fault call = Known number
+plan_found None fault call = plan_by fault call
 
 -- how a call is carried out, as the private state and the call show it; own
 unfoldable pub plan_of : PrivateView → Call → Plan
-plan_of p call = plan_by (fault_of p.tracked call) call
+plan_of p call = plan_found (number_asked p.tracked call) (fault_of p.tracked call) call
 
 -- the error of a plan, where it has one; own
 abbrev pub fault_in : Plan → Option GlError
 fault_in (Fault error) = Some error
+fault_in (Known number) = None
 fault_in Query = None
+fault_in Read = None
+fault_in Draw = None
 fault_in Local = None
-fault_in Pixels = None
+
+-- how many numbers a call with this plan replies as a list: only queries reply one; section 6.1
+abbrev pub room_of : Plan → Call → ℕ
+room_of Query call = list_length call
+room_of _ call = 0

@@ -1,12 +1,12 @@
-//! What the gets give of private state. The numbers of its tracked part are told in the crate of drivers.
+//! What the gets give of private state. The numbers of its tracked part are found before, with the plan.
 
-ghost use Rattle.std.specs.Prelude.{◌≡◌, ◌≤◌, ◌<◌, [], None, Some, length};
+ghost use Rattle.std.specs.Prelude.{◌≡◌, ◌≤◌, ◌<◌, [], ◌∷◌, None, Some, length};
 ghost use Rattle.std.specs.Option.{option_or};
-ghost use Rattle.gl_tracked.specs.Gets.{number_of_truth};
+ghost use Rattle.gl_tracked.specs.Gets.{number_beside, number_of_truth};
 ghost use Rattle.driver_trait.specs.Reply.{replied};
 ghost use Rattle.gl_tracked.specs.Step.{number_asked};
 ghost use Rattle.gl_state.specs.Event.{EventReplied};
-ghost use Rattle.gl_state.specs.Gets.{active_unit, alone, capability_rows, fixed_asked, fixed_length, found_beside, integers_length, limit_rows, rectangle_rows, setting_rows};
+ghost use Rattle.gl_state.specs.Gets.{active_unit, alone, capability_rows, fixed_asked, fixed_length, integers_length, limit_rows, list_beside, rectangle_rows, setting_rows};
 ghost use Rattle.gl_state.specs.Step.{list_length, numbers_replied, private_reply};
 
 use crate::private::Private;
@@ -15,19 +15,20 @@ use gl_memory::Numbers;
 use gl_words::Call;
 
 impl Private {
-    /// What a call without an error replies, ReadPixels aside (sections 2.5 and 6.1).
+    /// What a call without an error replies, ReadPixels and what asks for a number of tracked state aside (sections 2.5
+    /// and 6.1).
     pub(crate) fn answer(&self, call: &Call, room: Numbers) -> Reply
+        requires unknown { number_asked self.now.tracked call.now ≡ None }
         requires empty { room.items ≡ [] }
-        requires room { list_length None call.now ≤ room.room }
+        requires room { list_length call.now ≤ room.room }
         ensures { (event : EventReplied) → replied result
             ≡ private_reply None self.now call.now event }
     {
         match call {
             Call::GetError => Reply::One(i64::from(self.error_code())),
             Call::GetFixedv { pname, .. } => self.fixed(*pname, room),
-            Call::GetIntegerv { pname, .. } => self.integers(call, *pname, room),
-            Call::GetPointerv { .. } => one(self.tracked().asked(call)),
-            Call::IsEnabled { cap } => one(self.truth(call, *cap)),
+            Call::GetIntegerv { pname, .. } => self.integers(*pname, room),
+            Call::IsEnabled { cap } => self.capability(*cap),
             _ => Reply::Nothing,
         }
     }
@@ -45,33 +46,16 @@ impl Private {
         }
     }
 
-    /// What GetIntegerv gives for a name, as a reply: a number of tracked state, else what the rest of the state gives
-    /// (section 6.1.1).
-    fn integers(&self, call: &Call, name: u32, room: Numbers) -> Reply
-        requires empty { room.items ≡ [] }
-        requires room { integers_length name ≤ room.room }
-        ensures { let p = self.now in replied result ≡ numbers_replied
-            (option_or (alone (number_asked p.tracked call.now))
-            (option_or (alone (found_beside (setting_rows p) name))
-            (option_or (alone (found_beside limit_rows name))
-            (found_beside (rectangle_rows p) name)))) }
-    {
-        match self.tracked().asked(call) {
-            Some(number) => Reply::One(number),
-            None => self.other_integers(name, room),
-        }
-    }
-
     /// What GetIntegerv gives for a name of a setting, a limit or a rectangle, as a reply: the side of textures in texels
     /// and how many units there are among them (table 6.20, the values own).
     #[tactic(auto, unfolding(crate::specs::Gets::setting_rows, crate::specs::Gets::rectangle_rows, crate::specs::Gets::integers_length))]
-    fn other_integers(&self, name: u32, room: Numbers) -> Reply
+    fn integers(&self, name: u32, room: Numbers) -> Reply
         requires empty { room.items ≡ [] }
         requires room { integers_length name ≤ room.room }
         ensures { let p = self.now in replied result ≡ numbers_replied
-            (option_or (alone (found_beside (setting_rows p) name))
-            (option_or (alone (found_beside limit_rows name))
-            (found_beside (rectangle_rows p) name))) }
+            (option_or (alone (number_beside (setting_rows p) name))
+            (option_or (alone (number_beside limit_rows name))
+            (list_beside (rectangle_rows p) name))) }
     {
         let settings = self.settings();
         match name {
@@ -92,7 +76,7 @@ impl Private {
     }
 
     /// What GetFixedv gives for a name, as a reply (section 6.1.1).
-    #[tactic(auto, unfolding(crate::specs::Gets::fixed_asked, crate::specs::Gets::fixed_rows, crate::specs::Gets::texture_matrix, crate::specs::Gets::fixed_length))]
+    #[tactic(auto, unfolding(crate::specs::Gets::fixed_asked, crate::specs::Gets::fixed_rows, crate::specs::Gets::fixed_length))]
     fn fixed(&self, name: u32, room: Numbers) -> Reply
         requires empty { room.items ≡ [] }
         requires room { fixed_length name ≤ room.room }
@@ -109,50 +93,31 @@ impl Private {
         }
     }
 
-    /// What IsEnabled gives for a name (section 6.1.1).
-    fn truth(&self, call: &Call, name: u32) -> Option<i64>
-        ensures { result ≡ option_or (number_asked self.now.tracked call.now)
-            (found_beside (capability_rows self.now) name) }
-    {
-        match self.tracked().asked(call) {
-            Some(number) => Some(number),
-            None => self.capability(name),
-        }
-    }
-
+    /// What IsEnabled gives for a name of a capability, as a reply (section 6.1.1).
     #[tactic(auto, unfolding(crate::specs::Gets::capability_rows))]
-    fn capability(&self, name: u32) -> Option<i64>
-        ensures { result ≡ found_beside (capability_rows self.now) name }
+    fn capability(&self, name: u32) -> Reply
+        ensures { replied result
+            ≡ numbers_replied (alone (number_beside (capability_rows self.now) name)) }
     {
         let capabilities = &self.settings().capabilities;
         match name {
-            0x0B44 => Some(number_of_truth(capabilities.cull_face)),
-            0x0B71 => Some(number_of_truth(capabilities.depth_test)),
-            0x0BC0 => Some(number_of_truth(capabilities.alpha_test)),
-            0x0BD0 => Some(number_of_truth(capabilities.dither)),
-            0x0BE2 => Some(number_of_truth(capabilities.blend)),
-            0x0C11 => Some(number_of_truth(capabilities.scissor_test)),
-            0x0DE1 => Some(number_of_truth(capabilities.texture_2d[self.unit()])),
-            _ => None,
+            0x0B44 => truth(capabilities.cull_face),
+            0x0B71 => truth(capabilities.depth_test),
+            0x0BC0 => truth(capabilities.alpha_test),
+            0x0BD0 => truth(capabilities.dither),
+            0x0BE2 => truth(capabilities.blend),
+            0x0C11 => truth(capabilities.scissor_test),
+            0x0DE1 => truth(capabilities.texture_2d[self.unit()]),
+            _ => Reply::Nothing,
         }
     }
 }
 
-/// 1 for what is so, 0 for what isn't (section 6.1.2).
-fn number_of_truth(is_so: bool) -> i64
-    ensures { result ≡ number_of_truth is_so }
+/// 1 for what is so, 0 for what isn't, as a reply (section 6.1.2).
+fn truth(is_so: bool) -> Reply
+    ensures { replied result ≡ numbers_replied (Some (number_of_truth is_so ∷ [])) }
 {
-    if is_so { 1 } else { 0 }
-}
-
-/// A number as a reply, where there is one.
-fn one(number: Option<i64>) -> Reply
-    ensures { replied result ≡ numbers_replied (alone number) }
-{
-    match number {
-        Some(number) => Reply::One(number),
-        None => Reply::Nothing,
-    }
+    Reply::One(if is_so { 1 } else { 0 })
 }
 
 /// Numbers as a reply.

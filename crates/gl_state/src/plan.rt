@@ -7,10 +7,15 @@ use gl_words::GlError;
 pub enum Plan {
     /// Nothing: it has this error, and only records it.
     Fault(GlError),
-    /// Nothing: it is answered from the private state, and sets no more than the recorded error (sections 2.5 and 6.1).
+    /// Nothing: it is answered with this number of tracked state, and sets nothing (section 6.1).
+    Known(i64),
+    /// Nothing: it is answered from the rest of the private state, and sets no more than the recorded error (sections 2.5
+    /// and 6.1).
     Query,
+    /// The pixels of the frame: it is answered with them, and sets nothing (section 4.3.1).
+    Read,
+    /// The pixels of the frame: it changes them, sets nothing else, and isn't answered.
+    Draw,
     /// Nothing: it sets private state, or does nothing, and isn't answered.
     Local,
-    /// The pixels of the frame.
-    Pixels,
 }

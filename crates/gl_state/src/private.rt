@@ -9,7 +9,7 @@ ghost use Rattle.gl_state.specs.Gets.{fixed_length, integers_length};
 ghost use Rattle.gl_state.specs.Private.{AreSides, first_private};
 ghost use Rattle.gl_state.specs.Settings.{AreClamped, AreWithinOne};
 ghost use Rattle.gl_state.specs.Stacks.{current_of};
-ghost use Rattle.gl_state.specs.Step.{code_of_error, error_set_by, fault_in, list_length, plan_by, plan_of, private_after, private_reply, recorded};
+ghost use Rattle.gl_state.specs.Step.{code_of_error, error_set_by, fault_in, list_length, plan_by, plan_of, private_after, private_reply, recorded, room_of};
 ghost use Rattle.fixed_transform.specs.Stack.{top_of};
 
 use crate::event::EventReply;
@@ -19,7 +19,7 @@ use crate::stacks::Stacks;
 use driver_trait::Reply;
 use fixed_transform::Matrix;
 use gl_memory::{Memory, Numbers};
-use gl_tracked::Tracked;
+use gl_tracked::{Finding, Tracked};
 use gl_words::{Call, GlError};
 use std::alloc::{AllocError as NoMemory, Global};
 use std::marker::Model;
@@ -142,26 +142,27 @@ impl Private {
         }
     }
 
-    /// How a call is carried out; own.
+    /// How a call is carried out: all that is found of it, at one look; own.
     #[tactic(auto, unfolding(crate::specs::Step::plan_of))]
     pub fn plan(&self, call: &Call) -> Plan
         ensures { result ≡ plan_of self.now call.now }
     {
-        match self.tracked.fault(call) {
-            Some(error) => Plan::Fault(error),
-            None => plan_without_fault(call),
+        match self.tracked.finding(call) {
+            Finding::Number(number) => Plan::Known(number),
+            Finding::Fault(Some(error)) => Plan::Fault(error),
+            Finding::Fault(None) => plan_without_fault(call),
         }
     }
 
     /// Room for the numbers of a call's reply, where they are a list. Only this takes memory, and only for such a call; own.
     pub fn room(&self, alloc: Global, plan: Plan, call: &Call) -> Result<Numbers, NoMemory>
         ensures room { IfOk result (λ numbers. numbers
-            ≡ record { items = []; room = list_length (fault_in plan) call.now }) }
-        ensures err { IsErr result → list_length (fault_in plan) call.now ≢ 0 }
+            ≡ record { items = []; room = room_of plan call.now }) }
+        ensures err { IsErr result → room_of plan call.now ≢ 0 }
     {
         match plan {
-            Plan::Fault(_) => Ok(Numbers::none(alloc)),
-            _ => room_without_fault(alloc, call),
+            Plan::Query => room_for_list(alloc, call),
+            _ => Ok(Numbers::none(alloc)),
         }
     }
 
@@ -170,11 +171,12 @@ impl Private {
     pub fn reply(&self, plan: Plan, call: &Call, _event: &EventReply, room: Numbers) -> Reply
         requires plan { plan ≡ plan_of self.now call.now }
         requires empty { room.items ≡ [] }
-        requires room { list_length (fault_in plan) call.now ≤ room.room }
+        requires room { room_of plan call.now ≤ room.room }
         ensures { replied result ≡ private_reply (fault_in plan) self.now call.now
             (event_replied _event.now) }
     {
         match plan {
+            Plan::Known(number) => Reply::One(number),
             Plan::Query => self.answer(call, room),
             _ => Reply::Nothing,
         }
@@ -189,7 +191,8 @@ impl Private {
         match plan {
             Plan::Fault(error) => self.note_error(error),
             Plan::Query => self.forget_error(call),
-            _ => self.set(call, memory),
+            Plan::Local => self.set(call, memory),
+            _ => {}
         }
     }
 
@@ -226,11 +229,11 @@ impl Private {
     }
 }
 
-/// Room for the numbers of the reply to a call without an error.
-fn room_without_fault(alloc: Global, call: &Call) -> Result<Numbers, NoMemory>
+/// Room for the numbers of the list that a call without an error replies, if it replies one.
+fn room_for_list(alloc: Global, call: &Call) -> Result<Numbers, NoMemory>
     ensures room { IfOk result (λ numbers. numbers
-        ≡ record { items = []; room = list_length None call.now }) }
-    ensures err { IsErr result → list_length None call.now ≢ 0 }
+        ≡ record { items = []; room = list_length call.now }) }
+    ensures err { IsErr result → list_length call.now ≢ 0 }
 {
     let count = list_length(call);
     if count == 0 {
@@ -241,7 +244,7 @@ fn room_without_fault(alloc: Global, call: &Call) -> Result<Numbers, NoMemory>
 
 /// How many numbers a call without an error replies as a list, 0 where it replies one number or nothing.
 fn list_length(call: &Call) -> u64
-    ensures { result ≡ list_length None call.now }
+    ensures { result ≡ list_length call.now }
 {
     match call {
         Call::GetFixedv { pname, .. } => fixed_length(*pname),
@@ -271,12 +274,13 @@ fn integers_length(name: u32) -> u64
     }
 }
 
-/// How a call without an error is carried out.
+/// How a call without an error is carried out that asks for no number of tracked state.
 fn plan_without_fault(call: &Call) -> Plan
     ensures { result ≡ plan_by None call.now }
 {
     match call {
-        Call::Clear { .. } | Call::ReadPixels { .. } => Plan::Pixels,
+        Call::Clear { .. } => Plan::Draw,
+        Call::ReadPixels { .. } => Plan::Read,
         Call::GetError
         | Call::GetFixedv { .. }
         | Call::GetIntegerv { .. }

@@ -6,25 +6,27 @@ use Rattle.gl_words.specs.declared.call.Call.TheVariants.{Clear}
 use Rattle.gl_words.specs.declared.error.GlError.{GlError}
 use Rattle.gl_memory.specs.Segment.{Segment}
 use Rattle.gl_tracked.specs.Fault.{fault_of}
+use Rattle.gl_tracked.specs.Step.{number_asked}
 use Rattle.gl_state.specs.declared.plan.Plan.{Plan}
-use Rattle.gl_state.specs.declared.plan.Plan.TheVariants.{Pixels}
+use Rattle.gl_state.specs.declared.plan.Plan.TheVariants.{Draw}
 use Rattle.gl_state.specs.Event.{EventReplied}
 use Rattle.gl_state.specs.Private.{PrivateView, first_private}
-use Rattle.gl_state.specs.Step.{fault_in, plan_by, plan_of, private_after}
+use Rattle.gl_state.specs.Step.{fault_in, plan_found, plan_of, private_after}
 use Rattle.gl_state.proofs.Stepping.{fault_of-planned}
 use Rattle.soft_driver.specs.Frame.{FrameView, filled, first_frame}
 use Rattle.soft_driver.specs.Own.{AreTied, clears_colour, frame_after}
 
 module _ (state : PrivateView) (frame : FrameView) (memory : List Segment) (event : EventReplied) where
-  leaves_by : (fault : Option GlError) (call : Call) → plan_by fault call ≢ Pixels → frame ≡ frame_after fault state frame call memory event
+  leaves_by : (fault : Option GlError) (call : Call) → plan_found (number_asked state.tracked call) fault call ≢ Draw → frame ≡ frame_after fault state frame call memory event
+  unfolding number_asked
   leaves_by (Some error) call other = refl
   leaves_by None (Clear mask) other = absurd (other refl)
   leaves_by None _ other = refl
 
-  -- a call that needs no pixels leaves them
-  pub frame_after-no_pixels : (call : Call) (plan : Plan) → plan ≡ plan_of state call → plan ≢ Pixels → frame ≡ frame_after (fault_in plan) state frame call memory event
+  -- a call that isn't planned as one that draws leaves the pixels
+  pub frame_after-no_drawing : (call : Call) (plan : Plan) → plan ≡ plan_of state call → plan ≢ Draw → frame ≡ frame_after (fault_in plan) state frame call memory event
   unfolding plan_of
-  frame_after-no_pixels call plan planned other =
+  frame_after-no_drawing call plan planned other =
       leaves_by (fault_of state.tracked call) call (λ is. other (planned ∙ is))
       ∙ ap (λ (fault : Option GlError). frame_after fault state frame call memory event) (fault_of-planned state call plan planned)
 

@@ -66,4 +66,4 @@ own_step own call memory event = own_step_by (fault_of own.state.tracked call) o
 abbrev pub replies_list : Option GlError → Call → Bool
 replies_list (Some error) call = false
 replies_list None (ReadPixels x y width height format kind pixels) = true
-replies_list None call = nat_lt 0 (list_length None call)
+replies_list None call = nat_lt 0 (list_length call)

@@ -8,8 +8,8 @@ ghost use Rattle.gl_tracked.specs.Fault.{fault_of};
 ghost use Rattle.driver_trait.specs.Reply.{replied, Bytes};
 ghost use Rattle.gl_tracked.specs.Tracked.{IsSound};
 ghost use Rattle.gl_state.specs.Private.{AreSides};
-ghost use Rattle.gl_state.specs.Event.{EventReplied, event_replied};
-ghost use Rattle.gl_state.specs.Step.{fault_in, list_length, plan_of, private_reply};
+ghost use Rattle.gl_state.specs.Event.{EventReplied, NoEvent, event_replied};
+ghost use Rattle.gl_state.specs.Step.{fault_in, plan_of, private_reply, room_of};
 ghost use Rattle.soft_driver.specs.Frame.{bytes_read};
 ghost use Rattle.soft_driver.specs.Own.{first_own, frame_after, own_reply, own_step, replies_list, side_of};
 ghost use Rattle.soft_driver.specs.Soft.{own_tracked, OwnSteps, soft_is_driver};
@@ -86,15 +86,15 @@ impl Soft {
         ensures memory { IsErr result → replies_list (fault_in plan) call.now ≡ true }
     {
         match plan {
-            Plan::Query => self.numbers(plan, call, event),
-            Plan::Pixels => self.read(call),
+            Plan::Known(_) | Plan::Query => self.numbers(plan, call, event),
+            Plan::Read => self.read(call),
             _ => Ok(Reply::Nothing),
         }
     }
 
-    /// What a call replies that needs pixels: only ReadPixels reads them (section 4.3.1).
+    /// What a call replies that reads pixels (section 4.3.1).
     fn read(&self, call: &Call) -> Result<Reply, NoMemory>
-        requires plan { plan_of self.now.state call.now ≡ Plan.Pixels }
+        requires plan { plan_of self.now.state call.now ≡ Plan.Read }
         ensures reply { (event : EventReplied) → IfOk result (λ reply. replied reply
             ≡ own_reply None self.now call.now event) }
         ensures memory { IsErr result → replies_list None call.now ≡ true }
@@ -107,7 +107,7 @@ impl Soft {
                 height,
                 ..
             } => self.pixels(*x, *y, *width, *height),
-            _ => Ok(Reply::Nothing),
+            _ => unreachable!(),
         }
     }
 
@@ -129,10 +129,20 @@ impl Soft {
         requires plan { plan ≡ plan_of self.now.state call.now }
         ensures reply { IfOk result (λ reply. replied reply
             ≡ private_reply (fault_in plan) self.now.state call.now (event_replied event.now)) }
-        ensures memory { IsErr result → list_length (fault_in plan) call.now ≢ 0 }
+        ensures memory { IsErr result → room_of plan call.now ≢ 0 }
     {
         let room = self.state.room(self.alloc, plan, call)?;
         Ok(self.state.reply(plan, call, event, room))
+    }
+
+    /// Takes the step of a call with its plan, which no longer takes memory. The pixels come first, since they go by the
+    /// private state before the call (section 4.2.3).
+    fn step<M: Memory>(&mut self, plan: Plan, call: &Call, memory: &M)
+        requires plan { plan ≡ plan_of self.old.state call.now }
+        ensures { self.new ≡ (own_step self.old call.now (M.segments memory.now) NoEvent).own }
+    {
+        draw(plan, &self.state, &mut self.frame, call);
+        self.state.finish(plan, call, memory, &EventReply);
     }
 }
 
@@ -163,10 +173,13 @@ impl Driver for Soft {
         ensures unanswered { is_answering call.now ≡ false → IsOk result }
     {
         let plan = self.state.plan(call);
-        let reply = self.reply(plan, call, &EventReply)?;
-        draw(plan, &self.state, &mut self.frame, call);
-        self.state.finish(plan, call, memory, &EventReply);
-        Ok(reply)
+        match self.reply(plan, call, &EventReply) {
+            Ok(reply) => {
+                self.step(plan, call, memory);
+                Ok(reply)
+            }
+            Err(refused) => Err(refused),
+        }
     }
 }
 
@@ -185,8 +198,7 @@ fn draw(plan: Plan, state: &Private, frame: &mut Frame, call: &Call)
         ≡ frame_after (fault_in plan) state.now frame.old call.now memory event }
 {
     match plan {
-        Plan::Pixels => clear(state, frame, call),
-        Plan::Fault(_) => {}
+        Plan::Draw => clear(state, frame, call),
         _ => {}
     }
 }

@@ -3,11 +3,11 @@ use Rattle.std.proofs.lemmas.Int.{ints, to_z-of_z}
 use Rattle.std.proofs.lemmas.Result.{IfOk-weaker}
 use Rattle.driver_trait.specs.declared.reply.Reply.{Reply}
 use Rattle.driver_trait.specs.Reply.{Replied, replied, Bytes}
-use Rattle.gl_state.specs.declared.plan.Plan.TheVariants.{Pixels}
+use Rattle.gl_state.specs.declared.plan.Plan.TheVariants.{Read}
 use Rattle.gl_state.proofs.Stepping.{fault_of-planned}
 use Rattle.soft_driver.specs.Frame.{bytes_read}
 use Rattle.soft_driver.specs.Own.{own_reply, side_of}
-use Rattle.soft_driver.proofs.Replies.{own_reply-drawing, pixels_are_few}
+use Rattle.soft_driver.proofs.Replies.{pixels_are_few, read_is_no_other}
 use Rattle.soft_driver.proofs.soft.Soft.read.Goals as goal
 
 pub pixels-requires : goal.pixels-requires
@@ -16,12 +16,15 @@ pixels-requires c =
     let width : SFits w32 read.width = search rules in
     let height : SFits w32 read.height = search rules in
     let state = c.args.self.now.state in
-    let none = fault_of-planned state c.args.call.now Pixels (sym c.requires.plan) in
+    let none = fault_of-planned state c.args.call.now Read (sym c.requires.plan) in
     let few = pixels_are_few state.tracked read.x read.y read.width read.height read.format read.kind read.pixels (rw read.is at none) in
     record { wide = omega (arith, ints, few.wide); high = omega (arith, ints, few.high) }
 
-pub returns-in-ReadPixels-clause-reply : goal.returns-in-ReadPixels-clause-reply
-returns-in-ReadPixels-clause-reply c event =
+pub unreachable-requires : goal.unreachable-requires
+unreachable-requires c = read_is_no_other c.args.self.now c.args.call.now (sym c.requires.plan) c.in_default.not-ReadPixels
+
+pub returns-clause-reply : goal.returns-clause-reply
+returns-clause-reply c event =
     let read = c.in-ReadPixels in
     let x : SFits w32 read.x = search rules in
     let y : SFits w32 read.y = search rules in
@@ -36,6 +39,3 @@ returns-in-ReadPixels-clause-reply c event =
     (λ (reply : Reply). replied reply ≡ bytes (to_z w32 (of_z w32 read.x)) (to_z w32 (of_z w32 read.y)) (to_z w32 (of_z w32 read.width)) (to_z w32 (of_z w32 read.height)))
     (λ (reply : Reply). replied reply ≡ own_reply None own c.args.call.now event)
     (λ reply is. is ∙ passed ∙ told) c.pixels.ensures
-
-pub returns-in_default-clause-reply : goal.returns-in_default-clause-reply
-returns-in_default-clause-reply c event = sym (own_reply-drawing c.args.self.now c.args.call.now event (sym c.requires.plan) c.in_default.not-ReadPixels)
