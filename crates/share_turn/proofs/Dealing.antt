@@ -5,6 +5,7 @@ use Rattle.std.proofs.lemmas.List.{map-append}
 use Rattle.std.proofs.lemmas.List.Elements.{All-nil, All-cons, All-head, All-tail}
 use Rattle.share_turn.specs.declared.view.Part.{Part}
 use Rattle.share_turn.specs.declared.view.View.{View}
+use Rattle.share_turn.specs.Annals.{entries_of}
 use Rattle.share_turn.specs.View.{rest_of, first_of, dealer, dealt, part_of, parts_from, first_view}
 
 module _ {E : Type 0} (number : E → ℕ) (seats : ℕ) (history : List E) where
@@ -22,6 +23,10 @@ module _ {E : Type 0} (number : E → ℕ) (seats : ℕ) (history : List E) wher
 
   pub dealt-undealt : (k : ℕ) → k < seats → (dealt (undealt k)).own ≡ part_of number history k
   dealt-undealt k more = ap (first_of (part_of number history 0)) (undealt-kept k more)
+
+  -- the part of a number has the entries of that number in what it has seen
+  pub part_knows_own : (k : ℕ) (p : Part E) → p ≡ part_of number history k → p.mine ≡ entries_of number p.number p.seen
+  part_knows_own k p is = subst (λ (q : Part E). q.mine ≡ entries_of number q.number q.seen) (sym is) refl
 
   pub undealt-whole : (k : ℕ) → seats ≤ k → (undealt k).kept ≡ []
   undealt-whole k all = let e : seats - k ≡ 0 = omega arith in ap (parts_from number history k) e

@@ -45,6 +45,10 @@ module _ {T E : Type 0} {g : Ghosts T E} where
   abbrev pub seen : TurnSeat T E g → List E
   seen s = s.seat.me.0.own.seen
 
+  -- the entries that the seat made are those of its number in the history that it has seen; own
+  abbrev pub KnowsOwn : TurnSeat T E g → Type 0
+  KnowsOwn s = mine s ≡ entries_of g.number (number_of s) (seen s)
+
   -- how many of the seat's tries met a value that was out; own
   abbrev pub looks : TurnSeat T E g → ℕ
   looks s = s.seat.me.0.looks

@@ -7,8 +7,6 @@ mod pairs;
 mod rule;
 mod seat;
 mod steps;
-#[cfg(test)]
-mod tests;
 mod turn;
 mod view;
 

@@ -1,6 +1,7 @@
 //! A seat of a turn: it takes the value, and gives it back with entries of its own.
 //! Nothing here says when a seat is served.
 ghost use Rattle.std.specs.Prelude.{◌≡◌, true, []};
+ghost use Rattle.share_turn.specs.Annals.{entries_of};
 ghost use Rattle.share_turn.specs.View.{hand_of};
 
 use crate::annals::Annals;
@@ -17,12 +18,14 @@ pub struct TurnSeat<T: Annals> {
     ghost active: { seat.me.0.active ≡ true },
     ghost alone: { seat.me.0.kept ≡ [] },
     ghost hand: { seat.me.1 ≡ hand_of seat.me.0.holding },
+    ghost own_entries: { let own = seat.me.0.own in
+        own.mine ≡ entries_of T.number own.number own.seen },
 }
 
 impl<T: Annals> TurnSeat<T> {
     ghost use Rattle.std.specs.Prelude.{◌≡◌, ◌≤◌, IfSome, IfNone};
     ghost use Rattle.share_turn.specs.Turn.{IsSeatOf, IsIdle, IsHolding, AddsOwn, looks};
-    ghost use Rattle.share_turn.specs.Turn.{Receives, LooksOnly, Returns, SameLooks};
+    ghost use Rattle.share_turn.specs.Turn.{Receives, LooksOnly, Returns, SameLooks, KnowsOwn};
 
     /// Has the value, unless it is out with another seat at that moment.
     pub fn try_take(&mut self, turn: &Turn<T>) -> Option<T>
@@ -60,4 +63,10 @@ impl<T: Annals> TurnSeat<T> {
     {
         turn.put_home(&mut self.seat, value);
     }
+
+    /// A law: at any time, at rest or not, the entries that the seat made are those of its number in
+    /// the history that it has seen. It does nothing when it is run.
+    pub fn knows_own(&self)
+        ensures { KnowsOwn self.now }
+    {}
 }

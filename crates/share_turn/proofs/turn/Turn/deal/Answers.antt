@@ -3,7 +3,7 @@ use Rattle.std.proofs.lemmas.List.Elements.{All-push, All-same}
 use Rattle.share_turn.specs.Annals.{entries_of}
 use Rattle.share_turn.specs.View.{dealer, dealt, part_of}
 use Rattle.share_turn.specs.Turn.{number_of, IsDealt}
-use Rattle.share_turn.proofs.Dealing.{undealt, undealt-kept, dealer-undealt, dealt-undealt, InOrder, InOrder-push}
+use Rattle.share_turn.proofs.Dealing.{undealt, undealt-kept, dealer-undealt, dealt-undealt, part_knows_own, InOrder, InOrder-push}
 use Rattle.share_turn.proofs.Keeping.{deals_keep}
 use Rattle.share_turn.proofs.turn.Turn.deal.Goals as goal
 
@@ -14,6 +14,13 @@ split_seat-seat-requires g c =
     let left = c.loop-number.invariant.left in
     let kept = ap (λ m. m.0.kept) left ∙ undealt-kept number seats history k more in
     (search rules, search rules, deals_keep g.T.Annals.entries number turn.key.seats c.loop-number.first.id c.loop-number.first.me.0 _ _ (ap (λ m. m.0.active) left) (ap (λ m. m.0.holding) left) kept)
+
+pub invariant_of-push_reserved-clause-own_entries : goal.invariant_of-push_reserved-clause-own_entries
+invariant_of-push_reserved-clause-own_entries g c =
+    let number = g.T.Annals.number in let history = g.T.Annals.entries c.args.self.now.table.shared.key.value.value in
+    let seats : ℕ = c.args.seats in let k : ℕ = c.loop-number._number in let more : k < seats = omega arith in
+    let is = ap (λ m. m.0.own) c.split_seat-seat.ensures.4 ∙ ap (λ m. (dealt m.0).own) c.loop-number.invariant.left in
+    part_knows_own number seats history k c.split_seat-seat.result.me.0.own (is ∙ dealt-undealt number seats history k more)
 
 pub loop-number-preserved : goal.loop-number-preserved
 loop-number-preserved g c =

@@ -1,61 +1,16 @@
-ghost use Rattle.std.specs.Prelude.{◌≡◌, ◌<◌, [], ◌∷◌, IfOk, All};
-ghost use Rattle.share_turn.specs.Turn.{IsSeatOf, IsIdle, IsAllOf, number_of, seat_count};
+ghost use Rattle.std.specs.Prelude.{◌≡◌};
+ghost use Rattle.share_turn.specs.Turn.{IsSeatOf, IsIdle, number_of};
 
-use crate::laws::{
+use crate::seats::{both, two_seats};
+use share_turn::laws::{
     crossing_law, entries_are_kept_law, met_takes_were_made_law, rule_law, seats_differ_law,
     table_law, word_tells_holder_law,
 };
-use crate::{NoMemory, Pairs, Turn, TurnSeat, append_in_turn};
-use std::alloc::{AllocError, Global};
+use share_turn::{NoMemory, Pairs, Turn, TurnSeat, append_in_turn};
+use std::alloc::Global;
 use std::sync::Wait;
 use std::test::Fail;
 use std::thread::join;
-
-// A turn at this list, with two seats.
-fn two_seats(
-    alloc: Global,
-    pairs: Pairs,
-) -> Result<(Turn<Pairs>, TurnSeat<Pairs>, TurnSeat<Pairs>), NoMemory>
-    requires { All (λ pair. pair.0 < 2) pairs }
-    ensures turn { IfOk result (λ made. seat_count made.0 ≡ 2) }
-    ensures first { IfOk result
-        (λ made. IsSeatOf made.1 made.0 × IsIdle made.1 × (number_of made.1 ≡ 0)) }
-    ensures second { IfOk result
-        (λ made. IsSeatOf made.2 made.0 × IsIdle made.2 × (number_of made.2 ≡ 1)) }
-{
-    match Turn::new(alloc, pairs, 2) {
-        Ok((turn, mut seats)) => {
-            let Some(second) = seats.pop() else {
-                return Err(AllocError);
-            };
-            let Some(first) = seats.pop() else {
-                return Err(AllocError);
-            };
-            Ok((turn, first, second))
-        }
-        Err((_pairs, refused)) => Err(refused),
-    }
-}
-
-// The two seats of a turn, in order.
-fn both(
-    alloc: Global,
-    turn: &Turn<Pairs>,
-    first: TurnSeat<Pairs>,
-    second: TurnSeat<Pairs>,
-) -> Result<Vec<TurnSeat<Pairs>>, NoMemory>
-    requires turn { seat_count turn.now ≡ 2 }
-    requires first { IsSeatOf first turn.now × (number_of first ≡ 0) }
-    requires second { IsSeatOf second turn.now × (number_of second ≡ 1) }
-    ensures seats { IfOk result (λ seats. seats.items ≡ first ∷ second ∷ []) }
-    ensures all { IfOk result (λ seats. IsAllOf turn.now seats.items) }
-{
-    let _ = turn;
-    let mut seats = Vec::with_capacity(alloc, 2)?;
-    seats.push_reserved(first);
-    seats.push_reserved(second);
-    Ok(seats)
-}
 
 // Appends the numbers below `count` in a turn each.
 fn append_numbers<R: Wait>(
