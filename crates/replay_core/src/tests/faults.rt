@@ -1,12 +1,11 @@
 //! Objects that fail.
 
 use super::runs::{Outside, ended, has_file, replay};
-use super::told::FAULTS;
+use super::told::{FAILED_PUTS, FAULTS};
 use crate::ImageFile;
 use crate::deliver::deliver;
 use gl_memory::Octets;
 use gl_outside::{MemoryShelf, SureSink};
-use replay_text::Status;
 use std::alloc::{AllocError, Global};
 use std::test::Fail;
 use std::thread::Threads;
@@ -68,32 +67,46 @@ fn each_fault_ends_the_run(rt: HostRuntime) -> Result<(), Fail> {
     Ok(())
 }
 
-// The table ends with the first put that doesn't fail.
+/// Three images, of two bytes each.
+fn three_images(alloc: Global) -> Result<Vec<ImageFile>, AllocError> {
+    let mut images = Vec::new(alloc);
+    for name in ["a", "b", "c"] {
+        let name = String::from_str(alloc, name)?;
+        images.push(ImageFile::new(name, Octets::new(alloc, 2)?))?;
+    }
+    Ok(images)
+}
+
+/// Whether three images are put and a report of six bytes is written as is told: the number of the put that fails, how many
+/// images stand, how many bytes were written, and the status.
+fn delivers_so(alloc: Global, told: &str) -> Result<bool, AllocError> {
+    let Some((fault, status)) = told.split_once(": ") else {
+        return Ok(false);
+    };
+    let mut words = fault.split(' ');
+    let mut faults = Vec::new(alloc);
+    faults.push(number(words.next()))?;
+    let images = number(words.next());
+    let written = number(words.next());
+    let mut sink = SureSink::new(alloc);
+    let mut shelf = MemoryShelf::new(alloc, faults);
+    let three = three_images(alloc)?;
+    let report = b"report".as_slice();
+    let delivered = deliver(&mut sink, &mut shelf, three.as_slice(), report);
+    let is_ended = ended(alloc, &delivered, status)?;
+    Ok(
+        is_ended
+            && shelf.len() as u64 == images
+            && sink.bytes().len() as u64 == written
+            && report.starts_with(sink.bytes()),
+    )
+}
+
+// The last row is the first put that doesn't fail.
 #[test]
 fn a_failed_put_leaves_the_images_before_it(rt: HostRuntime) -> Result<(), Fail> {
-    let mut images = Vec::new(rt.alloc());
-    for name in ["a", "b", "c"] {
-        let name = format!(in rt.alloc(); "{name}")?;
-        images.push(ImageFile::new(name, Octets::new(rt.alloc(), 2)?))?;
-    }
-    for stored in 0..4 {
-        let mut sink = SureSink::new(rt.alloc());
-        let mut shelf = MemoryShelf::new(rt.alloc(), vec![in rt.alloc(); stored]?);
-        let status = deliver(
-            &mut sink,
-            &mut shelf,
-            images.as_slice(),
-            b"report".as_slice(),
-        );
-        if stored < 3 {
-            assert_eq!(rt; status, Status::ShelfFault { stored });
-            assert_eq!(rt; shelf.len() as u64, stored);
-            assert_eq!(rt; sink.bytes(), b"".as_slice());
-        } else {
-            assert_eq!(rt; status, Status::Ok);
-            assert_eq!(rt; shelf.len(), 3);
-            assert_eq!(rt; sink.bytes(), b"report".as_slice());
-        }
+    for told in FAILED_PUTS.lines() {
+        assert!(rt; delivers_so(rt.alloc(), told)?, "the put {told}");
     }
     Ok(())
 }

@@ -597,3 +597,12 @@ sink 1 10 1 10: write fault
 sink 41 1 1 41: done
 sink 6 7 1 41: done
 ";
+
+/// The number of the put that fails, of three and a report of six bytes, how many images stand, how many bytes were
+/// written, and how it ends.
+pub(super) const FAILED_PUTS: &str = "\
+0 0 0: shelf fault after 0 images
+1 1 0: shelf fault after 1 images
+2 2 0: shelf fault after 2 images
+3 3 6: done
+";
