@@ -9,7 +9,7 @@ use Rattle.replay_core.proofs.top.replay_alone.Goals as goal
 
 pub returns-in-Err-NoMemory-clause-no_memory : goal.returns-in-Err-NoMemory-clause-no_memory
 returns-in-Err-NoMemory-clause-no_memory g c = λ asked words e. (
-  record { reads = c.in-Err-NoMemory.ensures.no_memory refl; writes = refl; puts = refl },
+  record { reads = c.in-Err-NoMemory.ensures.no_memory cc; writes = refl; puts = refl },
   inl (record { read = c.in-Err-NoMemory.ensures.err; handed_over = hands_over_none 0 (g.R.RailMaker.journal c.args.rails.now); unput = refl; unwritten = refl }),
 )
 
