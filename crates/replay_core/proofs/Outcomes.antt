@@ -105,12 +105,14 @@ module _ (asked : Command) (script : Script) (before after : World) (runs : Runs
       let stands = delivers_as WriteFault is_fault in
       record { script = script; runs = runs; put = stands.put; written = stands.written }
 
-  pub stops_anywhere : status ≡ NoMemory → StopsAnywhere asked before after
-  stops_anywhere is_none =
-      elim (delivers_as NoMemory is_none) [
-        | inl part ↦ inr (inl (record { script = script; runs = runs; put = part.put; unwritten = part.unwritten }))
-        | inr all ↦ inr (inr (record { script = script; runs = runs; put = all.put; written = all.written }))
-      ]
+  pub stops_anywhere : status ≡ NoMemory → NothingFailed before after → StopsAnywhere asked before after
+  stops_anywhere is_none sound = (
+    sound,
+    elim (delivers_as NoMemory is_none) [
+      | inl part ↦ inr (inl (record { script = script; runs = runs; put = part.put; unwritten = part.unwritten }))
+      | inr all ↦ inr (inr (record { script = script; runs = runs; put = all.put; written = all.written }))
+    ],
+  )
 
 -- contexts that are one within the limits of a script
 pub one_context : (contexts : List ContextSpec) → HasOneContext contexts → IsOneContext contexts

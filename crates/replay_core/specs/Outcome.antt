@@ -92,6 +92,7 @@ pub record PutsNothing (before after : World) : Type 0 where
   pub unput : after.files ≡ before.files
   pub unwritten : after.held ≡ before.held
 
--- where want of memory may end a run: before the first image, before the report, or within it; own
+-- where want of memory may end a run: before the first image, before the report, or within it; and the counts of failures are as they were; own
 abbrev pub StopsAnywhere : Command → World → World → Type 0
-StopsAnywhere asked before after = PutsNothing before after ⊎ (StoresSome asked before after ⊎ WritesSome asked before after)
+StopsAnywhere asked before after =
+    NothingFailed before after × (PutsNothing before after ⊎ (StoresSome asked before after ⊎ WritesSome asked before after))

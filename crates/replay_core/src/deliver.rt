@@ -24,7 +24,9 @@ pub fn deliver<K: Sink, G: Shelf>(
     ensures shelf_fault { (stored : ℕ) → result ≡ Status.ShelfFault stored
         → Rose (G.faults shelf.old) (G.faults shelf.new) × (sink.new ≡ sink.old) }
     ensures write_fault { result ≡ Status.WriteFault
-        → Rose (K.faults sink.old) (K.faults sink.new) }
+        → Rose (K.faults sink.old) (K.faults sink.new) × (G.faults shelf.new ≡ G.faults shelf.old) }
+    ensures no_memory { result ≡ Status.NoMemory
+        → (K.faults sink.new ≡ K.faults sink.old) × (G.faults shelf.new ≡ G.faults shelf.old) }
 {
     match put_images(shelf, images) {
         Status::Ok => write_report(sink, report),
@@ -38,6 +40,7 @@ fn put_images<G: Shelf>(shelf: &mut G, images: &[ImageFile]) -> Status
     ensures sound { result ≡ Status.Ok → G.faults shelf.new ≡ G.faults shelf.old }
     ensures shelf_fault { (stored : ℕ) → result ≡ Status.ShelfFault stored
         → Rose (G.faults shelf.old) (G.faults shelf.new) }
+    ensures no_memory { result ≡ Status.NoMemory → G.faults shelf.new ≡ G.faults shelf.old }
 {
     let mut stored = 0;
     for image in images {
@@ -56,6 +59,7 @@ fn write_report<K: Sink>(sink: &mut K, report: &[u8]) -> Status
     ensures sound { result ≡ Status.Ok → K.faults sink.new ≡ K.faults sink.old }
     ensures write_fault { result ≡ Status.WriteFault
         → Rose (K.faults sink.old) (K.faults sink.new) }
+    ensures no_memory { result ≡ Status.NoMemory → K.faults sink.new ≡ K.faults sink.old }
 {
     match write_all(sink, report) {
         Ok(()) => Status::Ok,

@@ -1,7 +1,3 @@
-//! What no clause says: that calls succeed, the bytes that another program gives, and how often a driver is asked.
+//! What no clause says of calls that are no crate's but this one's: how often a driver is asked.
 
 mod asked;
-mod faults;
-mod parts;
-mod runs;
-mod told;

@@ -55,6 +55,7 @@ pub fn replay_alone<T: Threads + Sync, S: Source, K: Sink, G: Shelf, R: RailMake
         × (sink.new ≡ sink.old) × (shelf.new ≡ shelf.old) × (rails.new ≡ rails.old) }
     ensures bad_script { (error : ScriptError) → result ≡ Status.BadScript error
         → ReadsNoScript error (S.left source.old) (S.left source.new)
+        × (S.faults source.new ≡ S.faults source.old)
         × (sink.new ≡ sink.old) × (shelf.new ≡ shelf.old) × (rails.new ≡ rails.old) }
     ensures shelf_fault { let told =
         world_of S.left K.held G.list R.journal S.faults K.faults G.faults in
@@ -62,13 +63,16 @@ pub fn replay_alone<T: Threads + Sync, S: Source, K: Sink, G: Shelf, R: RailMake
         → (stored : ℕ) → result ≡ Status.ShelfFault stored
         → PutsSome asked stored (told source.old sink.old shelf.old rails.old)
         (told source.new sink.new shelf.new rails.new)
-        × Rose (G.faults shelf.old) (G.faults shelf.new) × (sink.new ≡ sink.old) }
+        × Rose (G.faults shelf.old) (G.faults shelf.new) × (sink.new ≡ sink.old)
+        × (S.faults source.new ≡ S.faults source.old) }
     ensures write_fault { let told =
         world_of S.left K.held G.list R.journal S.faults K.faults G.faults in
         (asked : Command) → Ask words.now asked → result ≡ Status.WriteFault
         → WritesSome asked (told source.old sink.old shelf.old rails.old)
         (told source.new sink.new shelf.new rails.new)
-        × Rose (K.faults sink.old) (K.faults sink.new) }
+        × Rose (K.faults sink.old) (K.faults sink.new)
+        × (G.faults shelf.new ≡ G.faults shelf.old)
+        × (S.faults source.new ≡ S.faults source.old) }
     ensures no_memory { let told =
         world_of S.left K.held G.list R.journal S.faults K.faults G.faults in
         (asked : Command) → Ask words.now asked → result ≡ Status.NoMemory

@@ -118,21 +118,29 @@ fn the_plain_program_asks_once_a_call(rt: HostRuntime) -> Result<(), Fail> {
     Ok(())
 }
 
+/// How often the driver is asked in a run over a rail, with batches of 16 slots, or none where the rail failed.
+fn asked_over<T: Threads + Sync, M: RailMaker<Counting>>(
+    rt: &T,
+    alloc: Global,
+    maker: &mut M,
+) -> Result<Option<u64>, NoMemory> {
+    let memory = ClientMemory::new(alloc, 4)?;
+    let Ok(rail) = maker.launch(alloc, 2, Counting::new(alloc)?, 16, 1) else {
+        return Ok(None);
+    };
+    let (ran, rail) = run_over(rt, alloc, rail, memory, 2, lines().as_slice());
+    let driver = maker.close(2, rail)?;
+    if ran.is_err() {
+        return Ok(None);
+    }
+    Ok(Some(driver.asked()))
+}
+
 #[test]
 fn a_run_over_a_rail_asks_once_a_call_and_no_get_of_tracked_state(
     rt: HostRuntime,
 ) -> Result<(), Fail> {
-    let memory = ClientMemory::new(rt.alloc(), 4)?;
     let mut maker = InlineMaker::new();
-    let driver = Counting::new(rt.alloc())?;
-    let Ok(rail) = maker.launch(rt.alloc(), 2, driver, 16, 1) else {
-        panic!(rt; "no rail was launched")
-    };
-    let (ran, rail) = run_over(&rt, rt.alloc(), rail, memory, 2, lines().as_slice());
-    assert!(rt; ran.is_ok());
-    let Ok(driver) = maker.close(2, rail) else {
-        panic!(rt; "a batch failed")
-    };
-    assert_eq!(rt; driver.asked(), 4);
+    assert_eq!(rt; asked_over(&rt, rt.alloc(), &mut maker)?, Some(4));
     Ok(())
 }

@@ -8,13 +8,17 @@ use Rattle.replay_core.proofs.Outcomes.{reads_script, runs_script, refused_is_re
 use Rattle.replay_core.proofs.top.replay_alone.Goals as goal
 
 pub returns-in-Err-NoMemory-clause-no_memory : goal.returns-in-Err-NoMemory-clause-no_memory
-returns-in-Err-NoMemory-clause-no_memory g c = λ asked words e.
-    inl (record { read = c.in-Err-NoMemory.ensures.err; handed_over = hands_over_none 0 (g.R.RailMaker.journal c.args.rails.now); unput = refl; unwritten = refl })
+returns-in-Err-NoMemory-clause-no_memory g c = λ asked words e. (
+  record { reads = c.in-Err-NoMemory.ensures.no_memory cc; writes = refl; puts = refl },
+  inl (record { read = c.in-Err-NoMemory.ensures.err; handed_over = hands_over_none 0 (g.R.RailMaker.journal c.args.rails.now); unput = refl; unwritten = refl }),
+)
 
 pub returns-in-Err-NoMemory-read-clause-no_memory : goal.returns-in-Err-NoMemory-read-clause-no_memory
 returns-in-Err-NoMemory-read-clause-no_memory g c = λ asked words e.
-    let read : TakesAtMost 8388609 (g.S.Source.left c.args.source.now) (g.S.Source.left c.read_up_to.new.source) = record { some = c.in-Ok.bytes.items; taken = c.in-Ok.ensures.ok; few = c.in-Ok.ensures.within } in
-    inl (record { read = read; handed_over = hands_over_none 0 (g.R.RailMaker.journal c.args.rails.now); unput = refl; unwritten = refl })
+    let read : TakesAtMost 8388609 (g.S.Source.left c.args.source.now) (g.S.Source.left c.read_up_to.new.source) = record { some = c.in-Ok.bytes.items; taken = c.in-Ok.ensures.ok; few = c.in-Ok.ensures.within } in (
+      record { reads = c.in-Ok.ensures.kept; writes = refl; puts = refl },
+      inl (record { read = read; handed_over = hands_over_none 0 (g.R.RailMaker.journal c.args.rails.now); unput = refl; unwritten = refl }),
+    )
 
 pub returns-in-Err-Bad-clause-refused : goal.returns-in-Err-Bad-clause-refused
 returns-in-Err-Bad-clause-refused g c = λ left asked error e words refused sound.
@@ -61,7 +65,7 @@ returns-in-Ok-run_command-clause-shelf_fault g c = λ asked words stored e.
     let runs = runs_script c.in-Some.asked asked script before after same read c.in-Ok-run_command.ensures.journal in
     let is_report = c.bytes.ensures ∙ (c.in-Ok-run_command.ensures.report ∙ ap (λ k. report_due k script) same) in
     let fault = c.deliver.ensures.shelf_fault stored e in
-    (puts_some asked script before after runs c.deliver.result c.as_slice.result.now c.bytes.result.now (c.as_slice.ensures.value ∙ c.in-Ok-run_command.ensures.images) is_report c.deliver.ensures.delivers stored e, fault.0, fault.1)
+    (puts_some asked script before after runs c.deliver.result c.as_slice.result.now c.bytes.result.now (c.as_slice.ensures.value ∙ c.in-Ok-run_command.ensures.images) is_report c.deliver.ensures.delivers stored e, fault.0, fault.1, c.in-Ok.ensures.kept)
 
 pub returns-in-Ok-run_command-clause-write_fault : goal.returns-in-Ok-run_command-clause-write_fault
 returns-in-Ok-run_command-clause-write_fault g c = λ asked words e.
@@ -74,7 +78,8 @@ returns-in-Ok-run_command-clause-write_fault g c = λ asked words e.
     let same : c.in-Some.asked ≡ asked = cc in
     let runs = runs_script c.in-Some.asked asked script before after same read c.in-Ok-run_command.ensures.journal in
     let is_report = c.bytes.ensures ∙ (c.in-Ok-run_command.ensures.report ∙ ap (λ k. report_due k script) same) in
-    (writes_some asked script before after runs c.deliver.result c.as_slice.result.now c.bytes.result.now (c.as_slice.ensures.value ∙ c.in-Ok-run_command.ensures.images) is_report c.deliver.ensures.delivers e, c.deliver.ensures.write_fault e)
+    let fault = c.deliver.ensures.write_fault e in
+    (writes_some asked script before after runs c.deliver.result c.as_slice.result.now c.bytes.result.now (c.as_slice.ensures.value ∙ c.in-Ok-run_command.ensures.images) is_report c.deliver.ensures.delivers e, fault.0, fault.1, c.in-Ok.ensures.kept)
 
 pub returns-in-Ok-run_command-clause-no_memory : goal.returns-in-Ok-run_command-clause-no_memory
 returns-in-Ok-run_command-clause-no_memory g c = λ asked words e.
@@ -87,7 +92,8 @@ returns-in-Ok-run_command-clause-no_memory g c = λ asked words e.
     let same : c.in-Some.asked ≡ asked = cc in
     let runs = runs_script c.in-Some.asked asked script before after same read c.in-Ok-run_command.ensures.journal in
     let is_report = c.bytes.ensures ∙ (c.in-Ok-run_command.ensures.report ∙ ap (λ k. report_due k script) same) in
-    stops_anywhere asked script before after runs c.deliver.result c.as_slice.result.now c.bytes.result.now (c.as_slice.ensures.value ∙ c.in-Ok-run_command.ensures.images) is_report c.deliver.ensures.delivers e
+    let sound = c.deliver.ensures.no_memory e in
+    stops_anywhere asked script before after runs c.deliver.result c.as_slice.result.now c.bytes.result.now (c.as_slice.ensures.value ∙ c.in-Ok-run_command.ensures.images) is_report c.deliver.ensures.delivers e (record { reads = c.in-Ok.ensures.kept; writes = sound.0; puts = sound.1 })
 
 pub returns-in-Ok-run_command-clause-refused : goal.returns-in-Ok-run_command-clause-refused
 returns-in-Ok-run_command-clause-refused g c = λ left asked error e words refused sound.

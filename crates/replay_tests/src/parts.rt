@@ -1,9 +1,9 @@
 //! What is printed and put of what lines told. The results are given, by contexts other than the first.
 
-use crate::{direct_report, frame_file, report};
 use gl_front::Counts;
 use gl_memory::{ClientMemory, Numbers};
 use gl_words::Call;
+use replay_core::{direct_report, frame_file, report};
 use replay_lines::{Done, Printed, Results, What, image_of};
 use script_reader::Name;
 use soft_driver::Soft;

@@ -3,10 +3,10 @@
 ghost use Rattle.std.specs.Prelude.{◌≡◌, ◌<◌};
 ghost use Rattle.batch_rail.specs.declared.maker.RailKind.TheVariants.{Inline};
 
-use super::told::{LARGE, MOST_LINES, PAST_LIMITS, REFUSED, RUNS};
-use crate::replay_alone;
+use crate::told::{LARGE, MOST_LINES, PAST_LIMITS, REFUSED, RUNS};
 use batch_rail::{InlineMaker, JournalMaker, RailKind, RailMaker};
 use gl_outside::{MemoryShelf, MemorySink, MemorySource};
+use replay_core::replay_alone;
 use replay_text::Status;
 use soft_driver::Soft;
 use std::alloc::{AllocError, Global};
@@ -16,15 +16,15 @@ use std::thread::Threads;
 
 /// Which calls of the source, the shelf and the sink fail, and how many bytes a call moves.
 #[derive(Drop)]
-pub(super) struct Outside {
-    pub(super) source: Vec<u64>,
-    pub(super) shelf: Vec<u64>,
-    pub(super) sink: Vec<u64>,
-    pub(super) most: usize,
+pub(crate) struct Outside {
+    pub(crate) source: Vec<u64>,
+    pub(crate) shelf: Vec<u64>,
+    pub(crate) sink: Vec<u64>,
+    pub(crate) most: usize,
 }
 
 impl Outside {
-    pub(super) fn sure(alloc: Global, most: usize) -> Outside {
+    pub(crate) fn sure(alloc: Global, most: usize) -> Outside {
         Outside {
             source: Vec::new(alloc),
             shelf: Vec::new(alloc),
@@ -36,14 +36,14 @@ impl Outside {
 
 /// What a run left.
 #[derive(Drop)]
-pub(super) struct Left {
-    pub(super) status: Status,
-    pub(super) sink: MemorySink,
-    pub(super) shelf: MemoryShelf,
+pub(crate) struct Left {
+    pub(crate) status: Status,
+    pub(crate) sink: MemorySink,
+    pub(crate) shelf: MemoryShelf,
 }
 
 /// Replays a script by words with a blank between each two.
-pub(super) fn replay<T: Threads + Sync>(
+pub(crate) fn replay<T: Threads + Sync>(
     rt: &T,
     alloc: Global,
     words: &str,
@@ -55,7 +55,7 @@ pub(super) fn replay<T: Threads + Sync>(
 }
 
 /// Replays over any maker whose rails are inline.
-fn replay_over<T: Threads + Sync, R: RailMaker<Soft>>(
+pub(crate) fn replay_over<T: Threads + Sync, R: RailMaker<Soft>>(
     rt: &T,
     alloc: Global,
     words: &str,
@@ -112,7 +112,7 @@ fn are_told(bytes: &[u8], told: &str) -> bool {
 }
 
 /// Whether the file at a place has this name and these bytes.
-pub(super) fn has_file(shelf: &MemoryShelf, place: usize, told: &str) -> bool {
+pub(crate) fn has_file(shelf: &MemoryShelf, place: usize, told: &str) -> bool {
     let Some((name, bytes)) = told.trim_end().split_once(' ') else {
         return false;
     };
@@ -166,7 +166,7 @@ fn script_of(alloc: Global, told: &str) -> Result<Vec<u8>, AllocError> {
 }
 
 /// Whether a run ended so: the text of its status is this one behind the program's name.
-pub(super) fn ended(alloc: Global, status: &Status, told: &str) -> Result<bool, AllocError> {
+pub(crate) fn ended(alloc: Global, status: &Status, told: &str) -> Result<bool, AllocError> {
     let text = format!(in alloc; "{status}")?;
     Ok(text.as_str().strip_prefix("glreplay: ") == Some(told))
 }

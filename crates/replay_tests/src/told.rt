@@ -7,7 +7,7 @@
 /// slots, which have room for three calls of five slots each; pixels that were read and are an image; each call once at
 /// least, without an error; a read whose upper row lies above the frame, where the bytes between rows stay; numbers and
 /// images at the end of memory; and `direct`.
-pub(super) const RUNS: &str = "\
+pub(crate) const RUNS: &str = "\
 @run --rail inline~done~
 glscript 1
 context 0 4 4 0
@@ -406,7 +406,7 @@ end
 ";
 
 /// Words that are refused, and scripts with a fault in each line that may have one.
-pub(super) const REFUSED: &str = "\
+pub(crate) const REFUSED: &str = "\
 @run --ring 65~bad words~
 glscript 1
 context 0 4 4 0
@@ -491,7 +491,7 @@ end
 ";
 
 /// A byte behind the last line that a script may have, and a last line that goes on past the last byte.
-pub(super) const PAST_LIMITS: &str = "\
+pub(crate) const PAST_LIMITS: &str = "\
 @run --rail inline~line 262145: TooMany Lines~
 glscript 1
 context 0 4 4 0
@@ -507,7 +507,7 @@ context 0 4 4 0
 ";
 
 /// The largest frame, client memory, image and read, a long line and full batches.
-pub(super) const LARGE: &str = "\
+pub(crate) const LARGE: &str = "\
 @run --rail inline~done~
 glscript 1
 context 0 256 256 1048576
@@ -528,7 +528,7 @@ end
 ";
 
 /// As many lines as a script may have, over the longest ring.
-pub(super) const MOST_LINES: &str = "\
+pub(crate) const MOST_LINES: &str = "\
 @run --ring 64 --batch 16~done~
 glscript 1
 context 0 1 1 0
@@ -578,7 +578,7 @@ end
 /// A run with an object that fails: which, the number of its call that fails, how many bytes a call moves, how many images
 /// stand, how many bytes of the report were written, and how the run ends. The script takes six reads of 16 bytes and one
 /// that finds its end, and the report three writes.
-pub(super) const FAULTS: &str = "\
+pub(crate) const FAULTS: &str = "\
 source 0 16 0 0: read fault
 source 1 16 0 0: read fault
 source 2 16 0 0: read fault
@@ -596,4 +596,12 @@ sink 3 16 1 41: done
 sink 1 10 1 10: write fault
 sink 41 1 1 41: done
 sink 6 7 1 41: done
+";
+
+/// The same of a script of three images. Its report has 41 bytes too.
+pub(crate) const FAILED_PUTS: &str = "\
+shelf 0 64 0 0: shelf fault after 0 images
+shelf 1 64 1 0: shelf fault after 1 images
+shelf 2 64 2 0: shelf fault after 2 images
+shelf 3 64 3 41: done
 ";

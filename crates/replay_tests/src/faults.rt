@@ -1,0 +1,109 @@
+//! Objects that fail.
+
+use crate::runs::{Outside, ended, has_file, replay};
+use crate::told::{FAILED_PUTS, FAULTS};
+use std::alloc::{AllocError, Global};
+use std::test::Fail;
+use std::thread::Threads;
+
+/// A script, and what it leaves where nothing fails: the report and the files.
+struct Whole {
+    script: &'static str,
+    report: &'static str,
+    files: &'static [&'static str],
+}
+
+const RED: Whole = Whole {
+    script: "glscript 1\ncontext 0 4 4 0\n0 ClearColorx 65536 0 0 65536\n0 Clear COLOR_BUFFER_BIT\nend\n",
+    report: "glreport 1\ncounts 0 2 0 0 1\nimages 1\nend\n",
+    files: &[
+        "frame-0.ppm 50360a3420340a3235350aff0000ff0000ff0000ff0000ff0000ff0000ff0000ff0000ff0000ff0000ff0000ff0000ff0000ff0000ff0000ff0000",
+    ],
+};
+
+const THREE_IMAGES: Whole = Whole {
+    script: "glscript 1\ncontext 0 1 1 8\n0 image a 1 1 0\n0 image b 1 1 4\nend\n",
+    report: "glreport 1\ncounts 0 0 0 0 0\nimages 3\nend\n",
+    files: &[
+        "image-a.ppm 50360a3120310a3235350a000000",
+        "image-b.ppm 50360a3120310a3235350a000000",
+        "frame-0.ppm 50360a3120310a3235350a000000",
+    ],
+};
+
+/// The number that a word spells.
+fn number(word: Option<&str>) -> u64 {
+    match word {
+        Some(word) => word.parse::<u64>().unwrap_or(u64::MAX),
+        None => u64::MAX,
+    }
+}
+
+/// Objects of which one fails at this call of it.
+fn failing(alloc: Global, object: &str, call: u64, most: u64) -> Result<Outside, AllocError> {
+    let mut outside = Outside::sure(alloc, most as usize);
+    match object {
+        "source" => outside.source.push(call)?,
+        "shelf" => outside.shelf.push(call)?,
+        _ => outside.sink.push(call)?,
+    }
+    Ok(outside)
+}
+
+/// Whether a run of this script with a fault ends as is told.
+fn ends_so<T: Threads + Sync>(
+    rt: &T,
+    alloc: Global,
+    whole: &Whole,
+    told: &str,
+) -> Result<bool, AllocError> {
+    let Some((fault, status)) = told.split_once(": ") else {
+        return Ok(false);
+    };
+    let mut words = fault.split(' ');
+    let object = words.next().unwrap_or("");
+    let call = number(words.next());
+    let outside = failing(alloc, object, call, number(words.next()))?;
+    let images = number(words.next());
+    let written = number(words.next());
+    let left = replay(
+        rt,
+        alloc,
+        "run --rail inline",
+        whole.script.as_bytes(),
+        outside,
+    )?;
+    if !ended(alloc, &left.status, status)? || left.shelf.len() as u64 != images {
+        return Ok(false);
+    }
+    for place in 0..left.shelf.len() {
+        let file = whole.files.get(place).copied().unwrap_or("");
+        if !has_file(&left.shelf, place, file) {
+            return Ok(false);
+        }
+    }
+    Ok(
+        left.sink.bytes().len() as u64 == written
+            && whole.report.as_bytes().starts_with(left.sink.bytes()),
+    )
+}
+
+#[test]
+fn each_fault_ends_the_run(rt: HostRuntime) -> Result<(), Fail> {
+    for told in FAULTS.lines() {
+        assert!(rt; ends_so(&rt, rt.alloc(), &RED, told)?, "the fault {told}");
+    }
+    Ok(())
+}
+
+// The last row is the first put that doesn't fail.
+#[test]
+fn a_failed_put_leaves_the_images_before_it(rt: HostRuntime) -> Result<(), Fail> {
+    for told in FAILED_PUTS.lines() {
+        assert!(rt;
+            ends_so(&rt, rt.alloc(), &THREE_IMAGES, told)?,
+            "the put {told}"
+        );
+    }
+    Ok(())
+}

@@ -1,0 +1,13 @@
+//! Tests of whole runs, and of the report and the images by themselves.
+#![tactic(auto)]
+
+#[cfg(test)]
+mod faults;
+#[cfg(test)]
+mod parts;
+#[cfg(test)]
+mod rails;
+#[cfg(test)]
+mod runs;
+#[cfg(test)]
+mod told;
