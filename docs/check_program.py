@@ -22,6 +22,23 @@ SECONDS = 60  # for one run; the slowest takes less than one
 RED = (EXAMPLES / "red.gls").read_bytes()
 REPORT = b"glreport 1\ncounts 0 2 0 0 1\nimages 1\nend\n"
 IMAGE = b"P6\n4 4\n255\n" + b"\xff\0\0" * 16
+HELP = b"""glreplay replays a script of OpenGL ES 1.1 calls from standard input.
+
+    glreplay run [--batch SLOTS] [--ring BATCHES] [--rail RAIL] < SCRIPT
+    glreplay direct < SCRIPT
+    glreplay --help
+    glreplay --version
+
+The report goes to standard output, the images into the current folder.
+
+run replays the script through the threaded layer. Its options may stand in any order, each at most once:
+
+    --batch SLOTS     slots of eight bytes in a batch, 16 to 8192 (1024)
+    --ring BATCHES    batches on their way at once, 1 to 64 (8)
+    --rail RAIL       how batches are handed over: inline (inline)
+
+direct carries out each call as its line is read, and its report has no line of counts.
+"""
 BAD_WORDS = b"glreplay: bad words\n"
 READ_FAULT = b"glreplay: read fault\n"
 WRITE_FAULT = b"glreplay: write fault\n"
@@ -43,6 +60,7 @@ LONG = "abcdefghijklmnopqrstuvwxyz-_012"  # one letter fewer than the name of an
 EXAMPLE_IMAGES = {
     "batches": {"frame-0": "2 2 ff0000ff0000ff0000ff0000"},
     "clears": {"frame-0": "2 1 0080ff0080ff", "image-half": "2 1 0080ff0080ff"},
+    "errors": {"frame-0": "2 2 " + "000000" * 4},
     "images": {
         "frame-0": "2 2 000000000000000000000000",
         "image-again": "1 1 0000ff",
@@ -50,12 +68,14 @@ EXAMPLE_IMAGES = {
         "image-upper": "2 1 ff0000ffffff",
         "image-whole": "2 2 ff0000ffffff000000808080",
     },
+    "matrices": {"frame-0": "4 2 " + "000000" * 8},
     "memory": {
         "frame-0": "1 1 000000",
         "image-answered": "2 1 ff0000001700",
         "image-edge": "2 1 0000ff000000",
         "image-written": "2 1 ff000000ff00",
     },
+    "read_back": {"frame-0": "4 2 " + "00ff00" * 8, "image-read": "4 2 " + "00ff00" * 8},
     "red": {"frame-0": "4 4 " + "ff0000" * 16},
     "refused": {},
     "rows": {
@@ -63,6 +83,8 @@ EXAMPLE_IMAGES = {
         "image-between": "4 2 00ffff00ffff00ffff11111100ffff00ffff00ffff111111",
         "image-outside": "4 1 00000000ffff00ffff000000",
     },
+    "stacks": {"frame-0": "1 1 000000"},
+    "tracked": {"frame-0": "1 1 000000"},
     "viewport": {"frame-0": "8 4 " + "ffff00" * 32},
 }
 
@@ -130,10 +152,7 @@ def emptied(folder):
 
 
 def texts_and_statuses(folder):
-    status, text, told = run(["--help"], b"", folder)
-    wants("--help", (status, text[:9], told), (0, b"glreplay ", b""))
-    for word in ("run", "direct", "--batch", "16 to 8192 (1024)", "--ring", "1 to 64 (8)", "--rail", "inline (inline)"):
-        wants(f"--help names {word}", word.encode() in text, True)
+    wants("--help", run(["--help"], b"", folder), (0, HELP, b""))
     wants("--version", run(["--version"], b"", folder), (0, b"glreplay 0.1.0\n", b""))
     for words in ([], ["--help", "run"], ["--version", "--help"], ["run", "--batch", "15"], [b"run\xff"]):
         wants(f"words {words}", run(words, RED, folder), (2, b"", BAD_WORDS))
@@ -288,10 +307,11 @@ def options(folder):
             (f"--rail {rail} --batch 8192 --ring 8", (0, large, b"")),
             (f"--rail {rail} --rail {rail}", (2, b"", BAD_WORDS)),
             (f"--rail {rail} --batch 16 --ring 65", (2, b"", BAD_WORDS)),
+            (f"--batch 16 --ring 8 --rail {rail} x", (2, b"", BAD_WORDS)),
             (rail, (2, b"", BAD_WORDS)),
         ):
             wants(f"run {given}", run(["run", *given.split()], script, folder), wanted)
-    for given in ("run --rail", "run --rail none", "direct --batch 16"):
+    for given in ("run --rail", "run --rail none", "direct --batch 16", "direct direct"):
         wants(given, run(given.split(), script, folder), (2, b"", BAD_WORDS))
     wants("run --batch 16", run(["run", "--batch", "16"], script, folder), (0, small, b""))
     wants("direct", run(["direct"], script, folder), (0, without_counts(large), b""))
@@ -308,15 +328,15 @@ def examples(folder):
             if line.startswith(f"# ./run examples/{path.name}"):
                 words = line.split()[3:]
         status, report, told = run(["run", *words], script, emptied(folder))
-        wants(path.name, (status, report + told), (0 if wanted.startswith(b"glreport") else 4, wanted))
+        good = wanted.startswith(b"glreport")
+        wants(path.name, (status, report, told), (0, wanted, b"") if good else (4, b"", wanted))
         images = files_in(folder)
-        if path.stem in EXAMPLE_IMAGES:
-            given = {}
-            for name, image in images.items():
-                head, size, most, pixels = image.split(b"\n", 3)
-                wants(f"{path.name}, {name}: the head", (head, most), (b"P6", b"255"))
-                given[name.removesuffix(".ppm")] = f"{size.decode()} {pixels.hex()}"
-            wants(f"{path.name}: the images", given, EXAMPLE_IMAGES[path.stem])
+        given = {}
+        for name, image in images.items():
+            head, size, most, pixels = image.split(b"\n", 3)
+            wants(f"{path.name}, {name}: the head", (head, most), (b"P6", b"255"))
+            given[name.removesuffix(".ppm")] = f"{size.decode()} {pixels.hex()}"
+        wants(f"{path.name}: the images", given, EXAMPLE_IMAGES.get(path.stem))
         run(["direct"], script, emptied(folder))
         wants(f"{path.name}: the images of direct", files_in(folder), images)
     emptied(folder)
@@ -324,12 +344,14 @@ def examples(folder):
 
 
 REFUSER = r"""
-/* Refuses the allocation with the number REFUSED, from 1, with LATER each one after it too, and makes the file TOLD. */
+/* Refuses the allocation with the number REFUSED, from 1, with LATER each one after it too, and makes the file TOLD; with
+   UNMOVED each file that is to be renamed. */
 #define _GNU_SOURCE
 #include <errno.h>
 #include <fcntl.h>
 #include <stddef.h>
 #include <stdlib.h>
+#include <sys/syscall.h>
 #include <unistd.h>
 
 extern void *__libc_malloc(size_t);
@@ -353,6 +375,12 @@ void *calloc(size_t n, size_t m) { return refused() ? NULL : __libc_calloc(n, m)
 void *realloc(void *p, size_t n) { return refused() ? NULL : __libc_realloc(p, n); }
 void *memalign(size_t a, size_t n) { return refused() ? NULL : __libc_memalign(a, n); }
 void *aligned_alloc(size_t a, size_t n) { return refused() ? NULL : __libc_memalign(a, n); }
+int renameat(int from, const char *old, int to, const char *new) {
+    if (!getenv("UNMOVED")) return (int)syscall(SYS_renameat2, from, old, to, new, 0);
+    errno = EACCES;
+    return -1;
+}
+int rename(const char *old, const char *new) { return renameat(AT_FDCWD, old, AT_FDCWD, new); }
 int posix_memalign(void **p, size_t a, size_t n) {
     void *got = refused() ? NULL : __libc_memalign(a, n);
     if (!got) return ENOMEM;
@@ -380,7 +408,8 @@ STARVED = script_of(
 
 
 def allocations(folder):
-    """Has each allocation of the program fail in turn, alone and with all that follow. Returns how many there are."""
+    """Has a file not take its place, and each allocation of the program fail in turn, alone and with all that follow.
+    Returns how many there are."""
     compiler = shutil.which("cc") or shutil.which("gcc")
     with tempfile.TemporaryDirectory() as room:
         source, library, told = Path(room) / "refuser.c", Path(room) / "refuser.so", Path(room) / "told"
@@ -389,6 +418,10 @@ def allocations(folder):
         built = compiler and subprocess.run(made, capture_output=True)
         if not built or built.returncode != 0:
             return None
+        (emptied(folder) / "frame-0.ppm").write_bytes(b"an older one")
+        unmoved = run(["run"], RED, folder, env={**os.environ, "LD_PRELOAD": str(library), "UNMOVED": "1"})
+        wants("a file that can't be renamed", unmoved, shelf_fault(0))
+        wants("what stands in its place", files_in(folder), {"frame-0.ppm": b"an older one"})
         answers = ["8 0 GetFixedv 65536" + " 0 0 0 0 65536" * 3, "9 0 GetIntegerv 5888", "10 0 ReadPixels 16"]
         images = {"image-a.ppm": image_of(2, 1, b"\1\2\3\5\6\7")}
         images |= {name: image_of(2, 2, b"\xff\0\0" * 4) for name in ("image-b.ppm", "frame-0.ppm")}

@@ -4,7 +4,7 @@
     docs/check_refusals.py                  compares the built program with the table
     docs/check_refusals.py --write PROGRAM  writes the table anew, with the answers of another program
 
-The table's answers are those of a plain reference program that other hands wrote from the rules of FORMATS.md.
+The table's answers are those of another program, a plain one, written from the rules of FORMATS.md.
 """
 
 import hashlib
@@ -49,10 +49,10 @@ def answer(words, script):
         if done.returncode == 0 and not done.stderr:
             told = done.stdout + b"".join(image.name.encode() + image.read_bytes() for image in images)
             return hashlib.sha256(told).hexdigest()[:8]
-        said = re.fullmatch(r"glreplay: line (\d+): (\w+)[ \w]*\n", done.stderr.decode())
+        said = re.fullmatch(r"glreplay: line (\d+): ((?!TooMany)\w+|TooMany Contexts)\n", done.stderr.decode())
         if done.returncode != 4 or done.stdout or images or not said:
             return f"status {done.returncode}, {done.stderr!r}, {len(done.stdout)} bytes of report, {len(images)} images"
-        return said.group(1) + LETTERS.get(said.group(2), said.group(2))
+        return said.group(1) + LETTERS.get(said.group(2).split()[0], said.group(2))
 
 
 def rows(program):

@@ -172,9 +172,10 @@ fn standard_output_takes_a_large_write(rt: HostRuntime) -> Result<(), Fail> {
 /// The answers of an input, and what is read from it: a call that a signal interrupts is made again,
 /// and no other.
 const INPUTS: &str = "\
-3i2 Ok([51, 51, 51, 50, 50])
-i1ii1i Ok([49, 49])
+3i2 Ok([97, 98, 99, 100, 101])
+i1ii1i Ok([97, 98])
 2f1 Err(Failed)
+2w1 Err(Failed)
 if Err(Failed)
 ";
 
@@ -199,6 +200,7 @@ const OUTPUTS: &str = "\
 3i5 Ok(()) Ok(\"abcdefgh\")
 i1ii9 Ok(()) Ok(\"abcdefgh\")
 2f8 Err(Failed) Ok(\"ab\")
+2w8 Err(Failed) Ok(\"ab\")
 30 Err(Failed) Ok(\"abc\")
 ";
 

@@ -7,13 +7,14 @@ use std::fmt::Display;
 use std::io::{self, BufRead, ErrorKind, Lines, Read};
 
 /// What the answer with this number lets through, of `asked` bytes: `i` is a call that a signal
-/// interrupts, `f` one that fails, and a digit one that moves so many bytes at most. After the last
-/// answer nothing moves.
+/// interrupts, `w` one that would have to wait, `f` one that fails otherwise, and a digit one that moves
+/// so many bytes at most. After the last answer nothing moves.
 fn moved(answers: &str, number: usize, asked: usize) -> io::Result<usize>
     ensures { IfOk result (λ n. n ≤ asked) }
 {
     match answers.as_bytes().get(number) {
         Some(b'i') => Err(io::Error::from(ErrorKind::Interrupted)),
+        Some(b'w') => Err(io::Error::from(ErrorKind::WouldBlock)),
         Some(b'f') => Err(io::Error::from(ErrorKind::BrokenPipe)),
         Some(digit) => Ok(asked.min(usize::from(digit.saturating_sub(b'0')))),
         None => Ok(0),
@@ -70,7 +71,7 @@ impl Print for ToldOutput {
     }
 }
 
-/// An input with these answers. Each byte that an answer moves is its digit.
+/// An input with these answers. The bytes that come in are the letters from `a` on.
 #[derive(Clone, Copy)]
 pub(super) struct ToldInput(pub(super) &'static str);
 
@@ -79,6 +80,7 @@ pub(super) struct ToldInput(pub(super) &'static str);
 pub(super) struct ToldReader {
     answers: &'static str,
     made: usize,
+    next: u8,
 }
 
 impl Read for ToldReader {
@@ -86,8 +88,9 @@ impl Read for ToldReader {
         let number = self.made;
         self.made = number.saturating_add(1);
         let n = moved(self.answers, number, buf.len())?;
-        if let Some(digit) = self.answers.as_bytes().get(number) {
-            buf[..n].fill(*digit);
+        for byte in &mut buf[..n] {
+            *byte = self.next;
+            self.next = self.next.wrapping_add(1);
         }
         Ok(n)
     }
@@ -116,6 +119,7 @@ impl Input for ToldInput {
         ToldReader {
             answers: self.0,
             made: 0,
+            next: b'a',
         }
     }
 }
