@@ -1,4 +1,4 @@
-//! Triangles whose pixels, depths and colours are known from a program written by other hands.
+//! Triangles whose pixels, depths and colours are known from another program.
 //! What a contract says of every triangle isn't tried here.
 
 ghost use Rattle.std.specs.Prelude.{◌^◌};

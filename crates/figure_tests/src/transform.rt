@@ -1,4 +1,4 @@
-//! Products known from a program written by other hands, and stacks.
+//! Products known from another program, and stacks.
 //! What a contract says of every matrix isn't tried here.
 
 use fixed_transform::laws::{floor_law, root_law};

@@ -1,4 +1,4 @@
-//! The matrices of each call on corner values, known from a program written by other hands.
+//! The matrices of each call on corner values, known from another program.
 //! What a contract says of every matrix isn't tried here.
 
 use fixed_transform::{Matrix, frustum, ortho, rotation};

@@ -78,7 +78,7 @@ pub fn replay_alone<T: Threads + Sync, S: Source, K: Sink, G: Shelf, R: RailMake
         (asked : Command) → Ask words.now asked → result ≡ Status.NoMemory
         → StopsAnywhere asked (told source.old sink.old shelf.old rails.old)
         (told source.new sink.new shelf.new rails.new) }
-    // the direct machine makes no rail, and adds to no journal
+    // the direct machine leaves the maker of rails as it was
     ensures direct { Ask words.now Direct → rails.new ≡ rails.old }
     // refused bytes are told as such, and accepted ones are run, where no count of faults rose
     ensures refused { (left : List ℕ) (asked : Command) (error : ScriptError)

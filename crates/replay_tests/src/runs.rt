@@ -209,14 +209,14 @@ fn count_runs<T: Threads + Sync + Abort>(
     Ok(count)
 }
 
-// The bytes were worked by hand, and a plain program by other hands gives the same.
+// The bytes were worked by hand, and another program gives the same.
 #[test]
 fn each_script_has_its_report_and_its_images(rt: HostRuntime) -> Result<(), Fail> {
     assert_eq!(rt; count_runs(&rt, rt.alloc(), RUNS)?, 20);
     Ok(())
 }
 
-// The lines and the faults are those of the worked examples, and of a plain program by other hands. Other words that are
+// The lines and the faults are those of FORMATS.md, and of another program. Other words that are
 // refused stand in the tests of the words.
 #[test]
 fn what_is_refused_leaves_nothing(rt: HostRuntime) -> Result<(), Fail> {
@@ -230,7 +230,7 @@ fn a_script_past_its_limits_is_refused(rt: HostRuntime) -> Result<(), Fail> {
     Ok(())
 }
 
-// With memory to spare all is done. The report is that of a plain program by other hands.
+// With memory to spare all is done. The report is that of another program.
 #[test]
 fn large_things_succeed(rt: HostRuntime) -> Result<(), Fail> {
     assert_eq!(rt; count_runs(&rt, rt.alloc(), LARGE)?, 1);
