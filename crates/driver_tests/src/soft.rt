@@ -209,8 +209,9 @@ VertexPointer 3 5132 0 0
 Viewport 0 0 2 2
 ";
 
-// Memory is taken for the frame, and 64 times at the end. So nothing is refused with `--fail-alloc 66`, unless a call takes
-// some, be it only to give it back, or to do without it where it is refused.
+// Memory is taken for the frame, and 64 times at the end. So nothing is refused with
+// `--fail-alloc 66`, unless a call takes some, be it only to give it back, or to do without it where
+// it is refused.
 #[test]
 fn only_a_list_takes_memory(rt: HostRuntime) -> Result<(), Fail> {
     let memory = ClientMemory::new(rt.alloc(), 0)?;

@@ -235,8 +235,9 @@ fn a_get_gives_a_matrix_by_columns(rt: HostRuntime) -> Result<(), Fail> {
     Ok(())
 }
 
-// INVALID_VALUE and STACK_UNDERFLOW, as section 4.3.1 and section 2.10.2 say. 2976 and 2978 are MATRIX_MODE, which is tracked,
-// and VIEWPORT, which isn't; so are 32884 and 3024, VERTEX_ARRAY and DITHER.
+// INVALID_VALUE and STACK_UNDERFLOW, as section 4.3.1 and section 2.10.2 say. 2976 and 2978 are
+// MATRIX_MODE, which is tracked, and VIEWPORT, which isn't; so are 32884 and 3024, VERTEX_ARRAY and
+// DITHER.
 #[test]
 fn a_plan_has_all_that_is_found_of_a_call(rt: HostRuntime) -> Result<(), Fail> {
     let private = Private::new(0, 4, 4);

@@ -1,4 +1,4 @@
-//! What the gets give of private state. The numbers of its tracked part are found before, with the plan.
+//! What the gets give of private state. Numbers of its tracked part are found before, by the plan.
 
 ghost use Rattle.std.specs.Prelude.{◌≡◌, ◌≤◌, ◌<◌, [], ◌∷◌, None, Some, length};
 ghost use Rattle.std.specs.Option.{option_or};
@@ -15,8 +15,8 @@ use gl_memory::Numbers;
 use gl_words::Call;
 
 impl Private {
-    /// What a call without an error replies, ReadPixels and what asks for a number of tracked state aside (sections 2.5
-    /// and 6.1).
+    /// What a call without an error replies, ReadPixels and what asks for a number of tracked
+    /// state aside (sections 2.5 and 6.1).
     pub(crate) fn answer(&self, call: &Call, room: Numbers) -> Reply
         requires unknown { number_asked self.now.tracked call.now ≡ None }
         requires empty { room.items ≡ [] }

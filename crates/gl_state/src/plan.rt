@@ -9,8 +9,8 @@ pub enum Plan {
     Fault(GlError),
     /// Nothing: it is answered with this number of tracked state, and sets nothing (section 6.1).
     Known(i64),
-    /// Nothing: it is answered from the rest of the private state, and sets no more than the recorded error (sections 2.5
-    /// and 6.1).
+    /// Nothing: it is answered from the rest of the private state, and sets no more than the
+    /// recorded error (sections 2.5 and 6.1).
     Query,
     /// The pixels of the frame: it is answered with them, and sets nothing (section 4.3.1).
     Read,

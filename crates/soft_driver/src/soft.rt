@@ -135,8 +135,8 @@ impl Soft {
         Ok(self.state.reply(plan, call, event, room))
     }
 
-    /// Takes the step of a call with its plan, which no longer takes memory. The pixels come first, since they go by the
-    /// private state before the call (section 4.2.3).
+    /// Takes the step of a call with its plan, and takes no memory. The pixels come first, since
+    /// they go by the private state before the call (section 4.2.3).
     fn step<M: Memory>(&mut self, plan: Plan, call: &Call, memory: &M)
         requires plan { plan ≡ plan_of self.old.state call.now }
         ensures { self.new ≡ (own_step self.old call.now (M.segments memory.now) NoEvent).own }
