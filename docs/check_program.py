@@ -205,6 +205,10 @@ def closed(name, number):
     return {name: None, "preexec_fn": lambda: os.close(number)}
 
 
+def too_many(limit, line):
+    return 4, b"", b"glreplay: line %d: TooMany %s\n" % (line, limit.encode())
+
+
 def shelf_fault(count):
     return 5, b"", b"glreplay: shelf fault after %d images\n" % count
 
@@ -290,6 +294,13 @@ def large_things(folder):
     script, report = script_of(256, 262144, lines), report_of([], "2 0 0 1", 2)
     wants("large images", run(["run"], script, emptied(folder)), (0, report, b""))
     wants("their bytes", files_in(folder), wanted)
+
+    # As many bytes as a script may have, most of them in a comment, and one more; then a thousand images.
+    for size, wanted in ((8388608, (0, report_of([], "0 0 0 0", 1), b"")), (8388609, too_many("SourceBytes", 3))):
+        script = script_of(1, 0, ["#" + "-" * (size - len(script_of(1, 0, ["#"])))])
+        wants(f"a script of {size} bytes", run(["run"], script, emptied(folder)), wanted)
+    script, report = script_of(1, 0, ["0 image a 1 1 0"] * 1000), report_of([], "0 0 0 0", 1001)
+    wants("a thousand images", run(["run"], script, emptied(folder)), (0, report, b""))
     emptied(folder)
 
 
