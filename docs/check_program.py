@@ -296,7 +296,7 @@ def large_things(folder):
     wants("their bytes", files_in(folder), wanted)
 
     # As many bytes as a script may have, most of them in a comment, and one more; then a thousand images.
-    for size, wanted in ((8388608, (0, report_of([], "0 0 0 0", 1), b"")), (8388609, too_many("SourceBytes", 3))):
+    for size, wanted in ((8388608, (0, report_of([], "0 0 0 0", 1), b"")), (8388609, too_many("SourceBytes", 4))):
         script = script_of(1, 0, ["#" + "-" * (size - len(script_of(1, 0, ["#"])))])
         wants(f"a script of {size} bytes", run(["run"], script, emptied(folder)), wanted)
     script, report = script_of(1, 0, ["0 image a 1 1 0"] * 1000), report_of([], "0 0 0 0", 1001)
