@@ -16,9 +16,6 @@ pub fn deliver<K: Sink, G: Shelf>(
     images: &[ImageFile],
     report: &[u8],
 ) -> Status
-    ensures delivers { Delivers result images.now report.now
-        (record { held = K.held sink.old; files = G.list shelf.old })
-        (record { held = K.held sink.new; files = G.list shelf.new }) }
     ensures sound { result ≡ Status.Ok
         → (K.faults sink.new ≡ K.faults sink.old) × (G.faults shelf.new ≡ G.faults shelf.old) }
     ensures shelf_fault { (stored : ℕ) → result ≡ Status.ShelfFault stored
@@ -27,6 +24,9 @@ pub fn deliver<K: Sink, G: Shelf>(
         → Rose (K.faults sink.old) (K.faults sink.new) × (G.faults shelf.new ≡ G.faults shelf.old) }
     ensures no_memory { result ≡ Status.NoMemory
         → (K.faults sink.new ≡ K.faults sink.old) × (G.faults shelf.new ≡ G.faults shelf.old) }
+    ensures delivers { Delivers result images.now report.now
+        (record { held = K.held sink.old; files = G.list shelf.old })
+        (record { held = K.held sink.new; files = G.list shelf.new }) }
 {
     match put_images(shelf, images) {
         Status::Ok => write_report(sink, report),
@@ -36,11 +36,11 @@ pub fn deliver<K: Sink, G: Shelf>(
 
 /// Puts the images in order, up to the first that isn't put.
 fn put_images<G: Shelf>(shelf: &mut G, images: &[ImageFile]) -> Status
-    ensures puts { Puts result images.now (G.list shelf.old) (G.list shelf.new) }
     ensures sound { result ≡ Status.Ok → G.faults shelf.new ≡ G.faults shelf.old }
     ensures shelf_fault { (stored : ℕ) → result ≡ Status.ShelfFault stored
         → Rose (G.faults shelf.old) (G.faults shelf.new) }
     ensures no_memory { result ≡ Status.NoMemory → G.faults shelf.new ≡ G.faults shelf.old }
+    ensures puts { Puts result images.now (G.list shelf.old) (G.list shelf.new) }
 {
     let mut stored = 0;
     for image in images {
@@ -55,11 +55,11 @@ fn put_images<G: Shelf>(shelf: &mut G, images: &[ImageFile]) -> Status
 
 /// Writes the report.
 fn write_report<K: Sink>(sink: &mut K, report: &[u8]) -> Status
-    ensures writes { Writes result report.now (K.held sink.old) (K.held sink.new) }
     ensures sound { result ≡ Status.Ok → K.faults sink.new ≡ K.faults sink.old }
     ensures write_fault { result ≡ Status.WriteFault
         → Rose (K.faults sink.old) (K.faults sink.new) }
     ensures no_memory { result ≡ Status.NoMemory → K.faults sink.new ≡ K.faults sink.old }
+    ensures writes { Writes result report.now (K.held sink.old) (K.held sink.new) }
 {
     match write_all(sink, report) {
         Ok(()) => Status::Ok,

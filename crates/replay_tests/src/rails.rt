@@ -1,8 +1,8 @@
 //! What a run does with its maker and its rail. No clause says how often a rail is launched and with which ring, nor how
 //! often its driver is taken.
 
+ghost use Rattle.std.specs.Prelude.{None};
 ghost use Rattle.batch_rail.specs.declared.maker.RailKind.TheVariants.{Inline};
-ghost use Rattle.std.specs.Prelude.{◌≡◌, None};
 
 use crate::runs::{Left, Outside, ended, replay_over};
 use batch_pack::Batch;
