@@ -48,6 +48,10 @@ none-not_answer tracked call memory slots (Some number) same = (
   λ other. absurd (other (class_of-asked tracked call memory slots (Some number) same)),
 )
 
+class_by-answer : (asked : Option ℤ) (answers finishes long : Bool) → class_by asked answers finishes long ≡ Answer → (number : ℤ) × (asked ≡ Some number)
+class_by-answer None answers finishes long is = absurd (class_by-none answers finishes long is)
+class_by-answer (Some number) answers finishes long is = (number, refl)
+
 is_none : (asked : Option ℤ) → IsNone asked → asked ≡ None
 is_none None none = refl
 is_none (Some number) none = absurd (cc)
@@ -67,6 +71,14 @@ class_by-defer None false false true is = absurd (cc)
 class_by-defer None false false false is = record { unasked = refl; unanswered = refl; unfinishing = refl; short = refl }
 
 module _ (tracked : Tracked) (call : Call) (memory : List Segment) (slots : ℕ) where
+  -- a call that is answered asks for a number
+  pub number_asked-answer : class_of tracked call memory slots ≡ Answer → (number : ℤ) × (number_asked tracked call ≡ Some number)
+  number_asked-answer is = class_by-answer (number_asked tracked call) (is_answering call) (is_finish call) (nat_lt slots (slots_of (captured_for tracked call memory))) (sym (class_of-by tracked call memory slots) ∙ is)
+
+  -- any other asks for none
+  pub number_asked-not_answer : class_of tracked call memory slots ≢ Answer → number_asked tracked call ≡ None
+  number_asked-not_answer other = is_none (number_asked tracked call) ((none-not_answer tracked call memory slots (number_asked tracked call) refl).1 other)
+
   deferred : class_of tracked call memory slots ≡ Defer → Deferred (number_asked tracked call) (is_answering call) (is_finish call) (nat_lt slots (slots_of (captured_for tracked call memory)))
   deferred is = class_by-defer (number_asked tracked call) (is_answering call) (is_finish call) (nat_lt slots (slots_of (captured_for tracked call memory))) (sym (class_of-by tracked call memory slots) ∙ is)
 

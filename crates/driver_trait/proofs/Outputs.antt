@@ -134,3 +134,31 @@ pixels_written-flat (pos (suc width)) (pos zero) place alignment bytes memory fl
 pub memory_after-nothing : (tracked : Tracked) (call : Call) (memory : List ℕ) → memory_after tracked call Nothing memory ≡ memory
 unfolding memory_after
 memory_after-nothing tracked call memory = refl
+
+length-numbers_written : (place : Option ℕ) (numbers : List ℤ) (memory : List ℕ) → length (numbers_written place numbers memory) ≡ length memory
+length-numbers_written None numbers memory = refl
+length-numbers_written (Some place) numbers memory = length-written memory place (flat_map number_bytes numbers)
+
+length-rows_written : (left place row pitch : ℕ) (bytes memory : List ℕ) → length (rows_written left place row pitch bytes memory) ≡ length memory
+unfolding rows_written
+length-rows_written zero place row pitch bytes memory = refl
+length-rows_written (suc left) place row pitch bytes memory =
+    length-rows_written left (place + pitch) row pitch (drop row bytes) (written memory place (take row bytes)) ∙ length-written memory place (take row bytes)
+
+length-pixels_written : (width height : ℤ) (place : ℕ) (alignment : ℤ) (bytes memory : List ℕ) → length (pixels_written width height place alignment bytes memory) ≡ length memory
+length-pixels_written (pos (suc width)) (pos height) place alignment bytes memory =
+    length-rows_written height place (4 * suc width) (pitch_of (4 * suc width) alignment) bytes memory
+length-pixels_written (pos (suc width)) (negsuc below) place alignment bytes memory = refl
+length-pixels_written (pos zero) height place alignment bytes memory = refl
+length-pixels_written (negsuc below) height place alignment bytes memory = refl
+
+length-bytes_written : (tracked : Tracked) (call : Call) (bytes memory : List ℕ) → length (bytes_written tracked call bytes memory) ≡ length memory
+length-bytes_written tracked (ReadPixels x y width height format kind pixels) bytes memory = length-pixels_written width height pixels tracked.pack_alignment bytes memory
+length-bytes_written tracked _ bytes memory = refl
+
+-- client memory keeps its length
+pub length-memory_after : (tracked : Tracked) (call : Call) (reply : Replied) (memory : List ℕ) → length (memory_after tracked call reply memory) ≡ length memory
+unfolding memory_after
+length-memory_after tracked call Nothing memory = refl
+length-memory_after tracked call (Numbers numbers) memory = length-numbers_written (numbers_place call) numbers memory
+length-memory_after tracked call (Bytes bytes) memory = length-bytes_written tracked call bytes memory
