@@ -145,13 +145,6 @@ the_spelling_law one other = λ call other_call h1 h2 e1 e2. record {
   same_call = λ same. equal_spellings_equal_calls call other_call h1 h2 (sym e1 ∙ same ∙ e2);
 }
 
--- the segments of a spelling hold bytes
-pub AreBytes-spelled : (spelled : Spelled) → HasSpelling spelled → AreBytes spelled.segments
-AreBytes-spelled spelled h =
-    All-weaker IsSegment (λ (segment : Segment). All (λ byte. byte < 256) segment.bytes)
-    (λ segment is. All-from_recursion (λ byte. byte < 256) segment.bytes is.bytes) spelled.segments
-    (All-from_recursion IsSegment spelled.segments h.segments)
-
 -- ---- spellings one after another
 
 pub spellings_of-append : (calls more : List Spelled) → spellings_of (calls ++ more) ≡ spellings_of calls ++ spellings_of more

@@ -130,12 +130,6 @@ pixels_written-flat (pos (suc width)) (pos (suc height)) place alignment bytes m
 pixels_written-flat (pos (suc width)) (pos zero) place alignment bytes memory flat =
     sym (rows_written-none 0 place (4 * suc width) (pitch_of (4 * suc width) alignment) bytes memory (omega arith))
 
--- a rectangle with sides above zero is rows of pixels
-pub pixels_written-rows : (width height place : ℕ) (alignment : ℤ) (bytes memory : List ℕ) → 0 < width
-    → rows_written height place (4 * width) (pitch_of (4 * width) alignment) bytes memory ≡ pixels_written (pos width) (pos height) place alignment bytes memory
-pixels_written-rows zero height place alignment bytes memory some = absurd (omega arith)
-pixels_written-rows (suc width) height place alignment bytes memory some = refl
-
 -- where nothing is replied nothing is written
 pub memory_after-nothing : (tracked : Tracked) (call : Call) (memory : List ℕ) → memory_after tracked call Nothing memory ≡ memory
 unfolding memory_after

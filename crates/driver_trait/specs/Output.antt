@@ -3,14 +3,10 @@ use Rattle.std.specs.Prelude.{ℕ, zero, suc, ◌+◌, ◌*◌, ◌/◌, ◌%◌
 use Rattle.std.specs.List.{flat_map}
 use Rattle.gl_words.specs.declared.call.Call.{Call}
 use Rattle.gl_words.specs.declared.call.Call.TheVariants.{GetFixedv, GetIntegerv, GetPointerv, ReadPixels}
+use Rattle.gl_words.specs.Making.{low_bits}
 use Rattle.gl_memory.specs.ClientMemory.{written}
 use Rattle.gl_tracked.specs.declared.tracked.Tracked.{Tracked}
 use Rattle.driver_trait.specs.Reply.{Replied, Nothing, Numbers, Bytes}
-
--- the low 32 bits of a number, those of a number below zero in two's complement; own
-unfoldable pub low_bits : ℤ → ℕ
-low_bits (pos number) = number % 2 ^ 32
-low_bits (negsuc below) = 2 ^ 32 - 1 - below % 2 ^ 32
 
 -- the low 32 bits of a number as four bytes, the lowest first; own
 unfoldable pub number_bytes : ℤ → List ℕ

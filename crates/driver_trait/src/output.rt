@@ -2,13 +2,13 @@
 
 ghost use Rattle.std.specs.Prelude.{◌≡◌, ◌<◌, ◌^◌, flat_map};
 ghost use Rattle.gl_memory.specs.ClientMemory.{written};
-ghost use Rattle.driver_trait.specs.Output.{bytes_written, low_bits, memory_after, number_bytes, numbers_place, numbers_written, pitch_of, pixels_written, rows_written};
+ghost use Rattle.driver_trait.specs.Output.{bytes_written, memory_after, number_bytes, numbers_place, numbers_written, pitch_of, pixels_written, rows_written};
 ghost use Rattle.driver_trait.specs.Reply.{replied};
 
 use crate::reply::Reply;
 use gl_memory::ClientMemory;
 use gl_tracked::Tracked;
-use gl_words::Call;
+use gl_words::{Call, low_bits};
 
 /// Writes what a call replied where the call wants it: numbers as their low 32 bits, four bytes each, the lowest first
 /// (section 6.1); the bytes of ReadPixels row by row (section 4.3.1). What falls outside client memory is dropped. It
@@ -63,14 +63,6 @@ fn number_bytes(number: i64) -> [u8; 4]
         (bits / 0x1_0000 % 256) as u8,
         (bits / 0x100_0000) as u8,
     ]
-}
-
-/// The low 32 bits of a number, those of a number below zero in two's complement.
-#[tactic(auto, unfolding(crate::specs::Output::low_bits))]
-fn low_bits(number: i64) -> u32
-    ensures { result ≡ low_bits number }
-{
-    number.rem_euclid(0x1_0000_0000) as u32
 }
 
 /// Writes the bytes that a call replied, where it reads pixels.

@@ -10,7 +10,7 @@ ghost use Rattle.driver_trait.specs.Recording.{recorder_is_driver};
 use crate::driver::{Driver, Machine};
 use crate::reply::Reply;
 use gl_memory::Memory;
-use gl_tracked::Tracked;
+use gl_tracked::{Finding, Tracked};
 use gl_words::Call;
 use std::alloc::{AllocError as NoMemory, Global};
 use std::marker::Model;
@@ -65,11 +65,10 @@ impl Driver for Recorder {
         call: &Call,
         memory: &M,
     ) -> Result<Reply, NoMemory> {
-        match self.tracked.asked(call) {
-            Some(number) => Ok(Reply::One(number)),
-            None => {
+        match self.tracked.finding(call) {
+            Finding::Number(number) => Ok(Reply::One(number)),
+            Finding::Fault(fault) => {
                 self.calls.push(*call)?;
-                let fault = self.tracked.fault(call);
                 self.tracked.note(call, memory, fault);
                 Ok(Reply::Nothing)
             }

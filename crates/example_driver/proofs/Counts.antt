@@ -1,12 +1,16 @@
 -- Two clears and a get of their count, made at a front over a rail that was just launched: what is told, and the driver that comes back.
-use Rattle.std.proofs.Common.{◌≡◌, ℕ, ◌+◌, ◌<◌, pos, List, [], ◌∷◌, Option, refl, sym, ap, subst, ◌∙◌, arith}
+use Rattle.std.proofs.Common.{◌≡◌, ℕ, ◌+◌, ◌<◌, pos, List, [], ◌∷◌, Option, None, refl, sym, ap, subst, ◌∙◌, arith}
+use Rattle.std.specs.Prelude.{is_some}
+use Rattle.std.proofs.lemmas.Bool.{true≢false}
 use Rattle.std.proofs.lemmas.Bool.Decides.{nat_tests}
+use Rattle.gl_words.specs.Call.{is_answering}
 use Rattle.gl_words.specs.declared.call.Call.{Call}
 use Rattle.gl_words.specs.declared.call.Call.TheVariants.{Clear, GetIntegerv}
 use Rattle.gl_memory.specs.Segment.{Segment}
 use Rattle.gl_tracked.specs.Fault.{fault_of, is_known_mask, is_among}
 use Rattle.gl_tracked.specs.Gets.{integer_asked, mode_rows, array_rows, buffer_rows}
 use Rattle.gl_tracked.specs.Step.{number_asked}
+use Rattle.driver_trait.specs.declared.reply.Reply.{Reply}
 use Rattle.driver_trait.specs.Reply.{Replied, Numbers}
 use Rattle.batch_pack.specs.Spelling.{Spelled}
 use Rattle.batch_rail.specs.Run.{RunsFrom}
@@ -24,6 +28,11 @@ clear_counts st st2 memory reply few step = ap (λ (s : Counter). s.clears) (ste
 count_is_told : (st st2 : Counter) (memory : List Segment) (reply : Replied) (params : ℕ) → CounterSteps st (GetIntegerv 0x0D33 params) memory st2 reply → (st2.clears ≡ st.clears) × (reply ≡ Numbers (pos st.clears ∷ []))
 unfolding number_asked fault_of integer_asked mode_rows array_rows buffer_rows is_among
 count_is_told st st2 memory reply params step = (ap (λ (s : Counter). s.clears) (step.0), step.1)
+
+-- a get of an integer asks for something, so that a front gives a reply
+pub a_get_has_a_reply : (given : Option Reply) (pname params : ℕ) → is_some given ≡ is_answering (GetIntegerv pname params) → given ≡ None → ⊥
+unfolding is_answering
+a_get_has_a_reply given pname params asked none = true≢false (sym asked ∙ ap is_some none)
 
 starts_at_none : (st start : Counter) → st ≡ start → start ≡ first_counter → st.clears ≡ 0
 starts_at_none st start same first = ap (λ (s : Counter). s.clears) (same ∙ first)

@@ -8,7 +8,7 @@ ghost use Rattle.example_driver.specs.Laws.{counter_is_driver};
 
 use driver_trait::{Driver, Machine, Reply};
 use gl_memory::Memory;
-use gl_tracked::Tracked;
+use gl_tracked::{Finding, Tracked};
 use gl_words::{Call, GlError};
 use std::alloc::AllocError as NoMemory;
 use std::thread::Threads;
@@ -87,10 +87,10 @@ impl Driver for Counter {
         ensures granted { IsOk result }
     {
         // Gets of tracked state first: they change nothing, and nothing below has to think of them.
-        if let Some(number) = self.tracked.asked(call) {
-            return Ok(Reply::One(number));
-        }
-        let fault = self.tracked.fault(call);
+        let fault = match self.tracked.finding(call) {
+            Finding::Number(number) => return Ok(Reply::One(number)),
+            Finding::Fault(fault) => fault,
+        };
         // The reply before the state: GetError gives the error that it forgets.
         let reply = self.reply(call, fault);
         self.recorded = recorded_after(self.recorded, call, fault);

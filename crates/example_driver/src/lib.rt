@@ -3,8 +3,6 @@
 
 mod counter;
 mod session;
-#[cfg(test)]
-mod tests;
 mod through;
 
 pub use counter::Counter;

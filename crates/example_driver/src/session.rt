@@ -32,16 +32,18 @@ pub fn two_clears<T: Threads + Sync>(
         return Err(AllocError);
     };
     front.write_memory(0, [1, 2, 3, 4].as_slice());
-    // Put off, both: neither asks for anything.
+    // Put off, both: neither asks for anything, and so neither has a reply.
     let clear = Call::Clear { mask: 0x4000 };
-    let _reply = front.issue(rt, &clear)?;
+    let _none = front.issue(rt, &clear)?;
     let _again = front.issue(rt, &clear)?;
-    // Waits, since the count is no tracked state: the two are carried out first.
+    // Waits, since the count is no tracked state: the two are carried out first. It asks for something, and so has a reply.
     let count = Call::GetIntegerv {
         pname: 0x0D33,
         params: 4,
     };
-    let told = front.issue(rt, &count)?;
+    let Some(told) = front.issue(rt, &count)? else {
+        unreachable!();
+    };
     // What is open is carried out, and the parts come back.
     front.finish(rt)?;
     let (rail, memory) = front.into_parts();

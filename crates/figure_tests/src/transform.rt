@@ -4,6 +4,7 @@
 use fixed_transform::laws::{floor_law, root_law};
 use fixed_transform::{Bottom, Full, Matrix, Stack};
 use std::process::Abort;
+use std::test::Fail;
 
 /// Two matrices, and the first times the second.
 #[derive(Drop)]
@@ -332,6 +333,13 @@ fn a_popped_stack_has_the_matrix_that_lay_below(rt: HostRuntime) {
     assert!(rt; matches!(stack.pop(), Err(Bottom)));
     assert_eq!(rt; stack.depth(), 1);
     assert_eq!(rt; *stack.top(), numbered(1));
+}
+
+#[test]
+fn a_refusal_of_a_stack_says_what_was_wrong(rt: HostRuntime) -> Result<(), Fail> {
+    let told = format!(in rt.alloc(); "{}, {}", Full, Bottom)?;
+    assert_eq!(rt; told.as_str(), "the stack is full, the stack holds one matrix");
+    Ok(())
 }
 
 #[test]

@@ -8,18 +8,6 @@ use Rattle.gl_front.specs.Front.{FailsOnlyBy}
 pub FailsOnlyBy-along : (old new : Type 0) (one other : List (List Spelled)) → one ≡ other → FailsOnlyBy old new one → FailsOnlyBy old new other
 FailsOnlyBy-along old new one other same fails = subst (λ (batches : List (List Spelled)). FailsOnlyBy old new batches) same fails
 
--- where there is a call, there is a batch of it
-pub some_batch : (calls : List Spelled) → calls ≢ [] → batch_unless_empty calls ≢ []
-some_batch [] some = absurd (some refl)
-some_batch (call ∷ calls) some = λ none. cc
-
--- what has failed by calls has failed by the batch of them
-pub FailsOnlyBy-by_calls : (old new : Type 0) (calls : List Spelled) → (new → old ⊎ (calls ≢ [])) → FailsOnlyBy old new (batch_unless_empty calls)
-FailsOnlyBy-by_calls old new calls fails failed = elim (fails failed) [
-  | inl old_failed ↦ inl old_failed
-  | inr some ↦ inr (some_batch calls some)
-]
-
 some_first : (first second : List (List Spelled)) → first ≢ [] → first ++ second ≢ []
 some_first [] second some = absurd (some refl)
 some_first (batch ∷ batches) second some = λ none. cc

@@ -126,8 +126,9 @@ impl<D: Driver, R: Rail<D>> Front<D, R> {
     }
 
     /// Issues a call, and gives its reply, which is written into client memory where the call wants it: None exactly where
-    /// the call asks for nothing (sections 2.5, 4.3.1 and 6.1). Only a call that waits meets the first NoMemory: a batch before it failed, or the driver was refused memory at the call itself.
-    /// After a refusal every later issue is refused and does nothing; own.
+    /// the call asks for nothing (sections 2.5, 4.3.1 and 6.1). Only a call that waits meets the first NoMemory: a batch before
+    /// it failed, or the driver was refused memory at the call itself. After a refusal every later issue is refused and does
+    /// nothing; own.
     pub fn issue<T: Threads + Sync>(
         &mut self,
         rt: &T,

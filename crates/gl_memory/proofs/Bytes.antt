@@ -63,7 +63,3 @@ AreBytes-memory_of bytes small =
     All-cons (λ (segment : Segment). All (λ byte. byte < 256) segment.bytes) whole []
     (All-from_get_or (λ byte. byte < 256) bytes 0 (λ place below. small place))
     (All-nil (λ (segment : Segment). All (λ byte. byte < 256) segment.bytes))
-
--- and so is a memory without segments
-pub AreBytes-nil : AreBytes []
-AreBytes-nil = All-nil (λ (segment : Segment). All (λ byte. byte < 256) segment.bytes)

@@ -2,4 +2,3 @@ pub mod Bytes
 pub mod Writing
 pub mod SlotBytes
 pub mod Cuts
-pub mod Agreements

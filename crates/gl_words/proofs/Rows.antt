@@ -97,10 +97,6 @@ small_id _ = lit< tt
 
 -- ---- backwards and forwards
 
-row_kinds : (call : Call) → (row_of call).kinds ≡ kinds_of call
-unfolding kinds_of
-row_kinds call = refl
-
 numbered_in-is : (calls : List Call) (id : ℕ) (call : Call) → numbered_in calls id ≡ Some call → id_of call ≡ id
 numbered_in-is [] id call h = absurd (cc)
 numbered_in-is (one ∷ calls) id call h =

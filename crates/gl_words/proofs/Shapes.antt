@@ -35,29 +35,12 @@ unfolding name_of id_of kinds_of
 each_call_is_found gl.Finish = refl
 each_call_is_found _ = refl
 
-none_is_not_some : {X : Type 0} (x : X) → None ≡ Some x → ⊥
-none_is_not_some x h = absurd (cc)
-
 none_where_not_some : {X : Type 0} → (o : Option X) → ((x : X) → o ≡ Some x → ⊥) → o ≡ None
 none_where_not_some None h = refl
 none_where_not_some (Some x) h = absurd (h x refl)
 
 some_is_some : {X : Type 0} (x y : X) → Some x ≡ Some y → x ≡ y
 some_is_some x y h = cc
-
-pub shape_found_is_named : (name : List ℕ) (result : Option Shape) → option_map seen_shape result ≡ shape_named name → IfSome result (IsNamedShape name)
-unfolding shapes
-shape_found_is_named name None h = tt
-shape_found_is_named name (Some shape) h =
-    let w = found_is_of_a_call each_call name (seen_shape shape) (sym h) in
-    (w.0, w.1, (ap (λ (s : ℕ × List ArgKind). s.0) (w.2), ap (λ (s : ℕ × List ArgKind). s.1) (w.2)))
-
-pub shape_of_call_is_found : (name : List ℕ) (result : Option Shape) → option_map seen_shape result ≡ shape_named name → (call : Call) → name_of call ≡ name → IsSomeAnd result (λ shape. IsShapeOf shape call)
-unfolding shapes
-shape_of_call_is_found name None h call same = let e = each_call_is_found call in absurd (none_is_not_some _ (h ∙ ap (found_in (shape_rows each_call)) (sym same) ∙ e))
-shape_of_call_is_found name (Some shape) h call same =
-    let e : Some (seen_shape shape) ≡ Some (shape_of call) = h ∙ ap (found_in (shape_rows each_call)) (sym same) ∙ each_call_is_found call in
-    (ap (λ (s : ℕ × List ArgKind). s.0) (some_is_some _ _ e), ap (λ (s : ℕ × List ArgKind). s.1) (some_is_some _ _ e))
 
 -- a call has at most nine arguments, so that has what is found by a name
 pub named_shape_is_short : (name : List ℕ) (result : Option Shape) → IfSome result (IsNamedShape name) → IfSome result (λ (shape : Shape). length shape.kinds.now ≤ 9)
@@ -80,12 +63,6 @@ pub shape_is_named : (name : List ℕ) (row : TableRow) → IsNamed name row →
 unfolding shapes
 shape_is_named name row h =
     ap (λ (t : Told). Some (t.id, t.kinds)) (h.2) ∙ sym (each_call_is_found (h.0)) ∙ ap (found_in (shape_rows each_call)) (h.3)
-
-pub zero_is_numbered : (name : List ℕ) (row : TableRow) → IsNamed name row → call_numbered row.id ≡ Some row.call
-zero_is_numbered name row h = h.1 ∙ ap (λ (t : Told). Some t.call) (sym (h.2))
-
-pub zero_has_kinds : (name : List ℕ) (row : TableRow) → IsNamed name row → row.kinds.now ≡ kinds_of row.call
-zero_has_kinds name row h = ap (λ (t : Told). t.kinds) (h.2) ∙ ap (λ (t : Told). kinds_of t.call) (sym (h.2))
 
 -- a row that is found by a number has it
 pub found_has_number : (id : ℕ) (row : TableRow) (found : IsFound id row) → row.id ≡ id

@@ -17,7 +17,7 @@ pub use call::Call;
 pub use error::GlError;
 pub use laws::call_law;
 pub use lookup::shape_of_name;
-pub use making::{call_from, call_in};
+pub use making::{call_from, call_in, low_bits};
 pub use names::number_of_enum;
 pub use shape::{ArgKind, Shape};
 pub use table::{TableRow, call_id, call_name, is_answering, row_of};

@@ -178,12 +178,13 @@ fn unsigned<I: Integer>(args: &[I], at: usize) -> u32
     ensures { result ≡ unsigned_at (map I.integer args.now) at }
 {
     match args.get(at) {
-        Some(arg) => low_half(arg.integer()),
+        Some(arg) => low_bits(arg.integer()),
         None => 0,
     }
 }
 
-fn low_half(value: i64) -> u32
+/// The low 32 bits of an integer, those of an integer below zero in two's complement; own.
+pub fn low_bits(value: i64) -> u32
     ensures { result ≡ low_bits value }
 {
     (value.cast_unsigned() % 0x1_0000_0000) as u32

@@ -113,22 +113,24 @@ fn issue_each<T: Threads + Sync, R: Rail<Limited>>(
     answered
 }
 
-/// What an issue gave.
+/// What an issue gave: a refusal, no reply, or a reply of nothing, of a number, or of more.
 #[derive(Clone, Copy, Debug, PartialEq, Eq)]
 enum Outcome {
     Refused,
+    NoReply,
     Nothing,
     Number(i64),
     Several,
 }
 
 /// What an issue gave, by what it returned.
-fn outcome_of(returned: Result<Reply, NoMemory>) -> Outcome {
+fn outcome_of(returned: Result<Option<Reply>, NoMemory>) -> Outcome {
     match returned {
         Err(_) => Outcome::Refused,
-        Ok(Reply::Nothing) => Outcome::Nothing,
-        Ok(Reply::One(number)) => Outcome::Number(number),
-        Ok(_) => Outcome::Several,
+        Ok(None) => Outcome::NoReply,
+        Ok(Some(Reply::Nothing)) => Outcome::Nothing,
+        Ok(Some(Reply::One(number))) => Outcome::Number(number),
+        Ok(Some(_)) => Outcome::Several,
     }
 }
 
@@ -333,7 +335,7 @@ fn calls_that_were_put_off_reach_the_driver_before_one_that_waits(
     let finished = front.finish(&rt);
     let (rail, _memory) = front.into_parts();
     let closed = maker.close(0, rail).ok();
-    assert!(rt; matches!(reply, Ok(Reply::Nothing)));
+    assert!(rt; matches!(reply, Ok(Some(Reply::Nothing))));
     assert!(rt; finished.is_ok());
     assert_eq!(rt;
         counts,

@@ -4,7 +4,7 @@
 
 use batch_pack::*;
 use gl_memory::{ClientMemory, Memory, Piece, Pieces, read_i32, read_u16, read_u32};
-use gl_words::Call;
+use gl_words::{Call, row_of};
 use std::alloc::{AllocError as NoMemory, Global};
 use std::process::Abort;
 use std::test::Fail;
@@ -274,7 +274,8 @@ fn reads_back(
     gives(rt, parse(slots), call, pieces, memory);
     batch.clear();
     assert_eq!(rt; batch.try_pack(&call, &captured, memory), Ok(()));
-    assert_eq!(rt; u64::from(batch.used()), spelling_slots(&call, &captured));
+    let heading = heading_of(row_of(&call), &captured);
+    assert_eq!(rt; u64::from(batch.used()), heading.slots);
     assert_eq!(rt; batch.used() as usize, slots.len());
     assert_eq!(rt; batch.slots(), slots);
     gives(rt, Ok(batch.reader()), call, pieces, memory);
@@ -485,6 +486,16 @@ fn packs(
         outcome
     );
     assert_eq!(rt; batch.used(), used);
+}
+
+#[test]
+fn a_refusal_says_what_was_wrong(rt: HostRuntime) -> Result<(), Fail> {
+    let told = format!(in rt.alloc(); "{}, {}", Full, BadSlots)?;
+    assert_eq!(rt;
+        told.as_str(),
+        "the batch is full, the slots are no spellings of calls"
+    );
+    Ok(())
 }
 
 #[test]

@@ -29,7 +29,7 @@ fn carried_out<T: Threads + Sync, D: Driver>(
 fn number_of(becomes: &Becomes) -> Option<i64> {
     match becomes {
         Becomes::Answer(number) => Some(*number),
-        Becomes::Sync | Becomes::Defer { .. } => None,
+        Becomes::Sync { .. } | Becomes::Defer { .. } => None,
     }
 }
 

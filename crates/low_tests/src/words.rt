@@ -1,8 +1,8 @@
 //! What no clause says: that calls and names are found at all, against numbers from outside.
 
 use gl_words::{
-    GlError, arg_at, arg_count, arg_count_of, arguments_of, call_from, call_id, call_in, call_law,
-    call_name, is_answering, number_of_enum, shape_of_name,
+    Call, GlError, arg_at, arguments_of, call_from, call_id, call_in, call_law, call_name, is_answering,
+    low_bits, number_of_enum, row_of, shape_of_name,
 };
 use std::process::Abort;
 use std::test::Fail;
@@ -64,7 +64,6 @@ fn is_found(rt: &impl Abort, name: &str, id: u16, numbers: &[i64], answered: boo
         panic!(rt; "no call has the name {name}");
     };
     assert_eq!(rt; shape.id, id);
-    assert_eq!(rt; arg_count_of(id), Some(numbers.len()));
     let Some(call) = call_from(id, numbers) else {
         panic!(rt; "no call has the number {id}");
     };
@@ -72,20 +71,52 @@ fn is_found(rt: &impl Abort, name: &str, id: u16, numbers: &[i64], answered: boo
     assert_eq!(rt; call_name(&call), name);
     assert_eq!(rt; call_id(&call), id);
     assert_eq!(rt; is_answering(&call), answered);
+    let row = row_of(&call);
+    assert_eq!(rt; (row.id, row.name, row.answering), (id, name, answered));
+    assert_eq!(rt; row.kinds.len(), numbers.len());
     assert_eq!(rt; arguments_of(&call).as_slice(), numbers);
-    if 0 < arg_count(&call) {
+    if 0 < row.kinds.len() {
         assert_eq!(rt; Some(&arg_at(&call, 0)), numbers.first());
     }
 }
 
 #[test]
 fn a_call_prints_as_a_script_spells_it(rt: HostRuntime) -> Result<(), Fail> {
-    let call = call_in(48, &[0x0D05, 0xFFFF_FFFF_FFFF_FFF8, 1]).ok_or("none")?;
-    assert_eq!(rt;
-        format!(in rt.alloc(); "{call:?}")?.as_str(),
-        "PixelStorei 3333 -8"
-    );
+    let slots = [0x0D05, 0xFFFF_FFFF_FFFF_FFF8, 1];
+    let (call, behind) = call_in(48, &slots).ok_or("none")?;
+    assert_eq!(rt; behind, [1].as_slice());
+    let read = Call::ReadPixels {
+        x: -1,
+        y: -2,
+        width: 3,
+        height: 4,
+        format: 0x1908,
+        kind: 0x1401,
+        pixels: 1024,
+    };
+    let rows = [
+        (call, "PixelStorei 3333 -8"),
+        (read, "ReadPixels -1 -2 3 4 6408 5121 1024"),
+        (Call::Finish, "Finish"),
+    ];
+    for (call, spelled) in &rows {
+        assert_eq!(rt; format!(in rt.alloc(); "{call:?}")?.as_str(), *spelled);
+    }
     Ok(())
+}
+
+// Worked by hand.
+#[test]
+fn the_low_bits_of_a_number_are_those_of_its_complement(rt: HostRuntime) {
+    let rows = [
+        (7, 7),
+        (0x1_0000_0007, 7),
+        (-1, 0xFFFF_FFFF),
+        (-0x1_0000_0000, 0),
+    ];
+    for (number, bits) in rows {
+        assert_eq!(rt; low_bits(number), bits);
+    }
 }
 
 #[test]

@@ -12,7 +12,7 @@ ghost use Rattle.replay_core.specs.Script.{IsOneContext, first_context, seen_scr
 use driver_trait::{Driver, write_reply};
 use gl_memory::ClientMemory;
 use gl_tracked::Tracked;
-use gl_words::{Call, call_id};
+use gl_words::{Call, is_answering};
 use replay_lines::{Done, Results, image_of};
 use script_reader::{Act, ContextSpec, Line, Script};
 use soft_driver::Soft;
@@ -153,8 +153,8 @@ impl<D: Shows> Plain<D> {
         }
     }
 
-    /// Carries a line's call out. The driver is asked once. Its reply is written by the tracked state after the call: only
-    /// calls that ask for something reply, and such calls leave tracked state.
+    /// Carries a line's call out. The driver is asked once, and so is whether the call asks for something. Its reply is written
+    /// by the tracked state after the call: only calls that ask for something reply, and such calls leave tracked state.
     fn carry_out_call<T: Threads + Sync>(
         &mut self,
         rt: &T,
@@ -165,11 +165,16 @@ impl<D: Shows> Plain<D> {
         ensures { OnOk result
             (CarriesOut D.tracked D.steps (line.now ∷ []) self.old self.new) }
     {
-        call_id(call);
+        let asks = is_answering(call);
         self.memory.bytes();
         let reply = self.driver.call(rt, call, &self.memory)?;
         write_reply(&mut self.memory, self.driver.shown(), call, &reply);
-        self.results.note(line.number, line.context, call, reply)
+        if asks {
+            self.results
+                .answer(line.number, line.context, call, reply)
+        } else {
+            Ok(())
+        }
     }
 }
 

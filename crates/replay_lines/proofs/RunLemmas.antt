@@ -1,5 +1,5 @@
 -- Lines run one after another, and where memory was wanting.
-use Rattle.std.proofs.Common.{◌≡◌, inl, inr, Bool, true, false, ℕ, List, [], ◌∷◌, ◌++◌, map, refl, sym, ap, subst, ◌∙◌, append_assoc, Option, Result, Ok, Err, OnOk, OnErr}
+use Rattle.std.proofs.Common.{◌≡◌, inl, inr, Bool, true, false, ℕ, List, [], ◌∷◌, ◌++◌, map, refl, sym, ap, subst, ◌∙◌, append_assoc, Option, Result, Ok, Err, OnOk, OnErr, if◌then◌else◌}
 use Rattle.std.proofs.lemmas.List.{append-nil, map-append}
 use Rattle.gl_words.specs.Call.{is_answering}
 use Rattle.gl_words.specs.declared.call.Call.{Call}
@@ -18,7 +18,7 @@ use Rattle.script_reader.specs.declared.script.Act.TheVariants.{Mem, Image, Gl}
 use Rattle.script_reader.specs.declared.script.Line.{Line}
 use Rattle.replay_lines.specs.Lines.{Ran, Standing, after_act, after_lines, told_at, told_by_lines, StepsAt, StepsThrough}
 use Rattle.replay_lines.specs.Moments.{Moment, moments_at, moments_by, issued_in, issued_by_lines}
-use Rattle.replay_lines.specs.Results.{DoneView, Shown, Picture, told_of, taken_bytes}
+use Rattle.replay_lines.specs.Results.{DoneView, Shown, Answer, Picture, printed, told_of, taken_bytes}
 use Rattle.replay_lines.specs.Running.{CountsOn, TellsOn, RunsOn, StopsAt, StopsOn, standing_of}
 use Rattle.replay_lines.proofs.Countings.{CountsOn-nil, CountsOn-one, CountsOn-then, TellsOn-nil, TellsOn-one, TellsOn-then}
 use Rattle.replay_lines.proofs.LinesLemmas.{after_lines-append, after_lines-one, after_lines-nil, told_by_lines-append, told_by_lines-one, told_by_lines-nil, moments_by-append, moments_by-one, moments_by-nil, StepsThrough-append, StepsThrough-one, StepsThrough-nil}
@@ -28,15 +28,16 @@ pub OnErr-always : {T E P : Type 0} (result : Result T E) → P → OnErr result
 OnErr-always (Ok value) p = tt
 OnErr-always (Err refusal) p = p
 
--- what two facts on Err give
-pub on_err_known : {T E P Q X : Type 0} (result : Result T E) → (P → Q → X) → OnErr result P → OnErr result Q → OnErr result X
-on_err_known (Ok value) gives p q = tt
-on_err_known (Err refusal) gives p q = gives p q
-
 -- what was added or not is an addition
 pub added_or_not : {T E : Type 0} (result : Result T E) (old new more : List DoneView) → OnOk result (new ≡ old ++ more) → OnErr result (new ≡ old) → (added : List DoneView) × (new ≡ old ++ added)
 added_or_not (Ok value) old new more added same = (more, added)
 added_or_not (Err refusal) old new more added same = ([], same ∙ sym (append-nil old))
+
+-- a call that asks for nothing tells nothing
+pub nothing_told : (number context : ℕ) (call : Call) (reply : Replied) (told : List DoneView) → is_answering call ≡ false → told ≡ told ++ told_of number context call reply
+nothing_told number context call reply told silent =
+    let answer : List DoneView = record { number = number; context = context; shown = Answer call (printed call reply) } ∷ [] in
+    sym (append-nil told) ∙ ap (λ (asks : Bool). told ++ (if asks then answer else [])) (sym silent)
 
 module _ {R S : Type 0} (tracked : S → Tracked) (steps : Steps S) (stands : R → S → Type 0) (journal : R → Option (List (List Spelled))) where
   -- what RunsOn says, of one line that does this and has this reply

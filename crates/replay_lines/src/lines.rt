@@ -93,8 +93,10 @@ fn run_line<T: Threads + Sync, D: Driver, R: Rail<D>>(
         }
         Act::Gl(call) => {
             front.knows_tracked();
-            let reply = front.issue(rt, call)?;
-            results.note(line.number, line.context, call, reply)
+            match front.issue(rt, call)? {
+                Some(reply) => results.answer(line.number, line.context, call, reply),
+                None => Ok(()),
+            }
         }
     }
 }

@@ -7,7 +7,7 @@ ghost use Rattle.replay_lines.specs.Results.{Answer, Picture, count_of_bytes, pr
 
 use driver_trait::Reply;
 use gl_memory::{ClientMemory, Memory, Numbers, Octets};
-use gl_words::{Call, is_answering};
+use gl_words::Call;
 use script_reader::Name;
 use std::alloc::{AllocError as NoMemory, Global};
 use std::marker::Model;
@@ -81,23 +81,20 @@ impl Results {
         Ok(())
     }
 
-    /// Adds what a call of this line tells by its reply, where it tells something. NoMemory, which only a call that asks for
-    /// something meets, leaves them as they were; own.
-    pub fn note(
+    /// Adds the answer of this line: what its call, which asks for something, tells by its reply. NoMemory leaves them as
+    /// they were; own.
+    pub fn answer(
         &mut self,
         number: u32,
         context: u32,
         call: &Call,
         reply: Reply,
     ) -> Result<(), NoMemory>
+        requires asks { is_answering call.now ≡ true }
         ensures ok { OnOk result
             (self.new ≡ self.old ++ told_of number context call.now (replied reply)) }
         ensures err { OnErr result (self.new ≡ self.old) }
-        ensures asked { OnErr result (is_answering call.now ≡ true) }
     {
-        if !is_answering(call) {
-            return Ok(());
-        }
         self.push(Done {
             number,
             context,

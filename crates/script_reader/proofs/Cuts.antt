@@ -32,9 +32,6 @@ whole_line (byte ∷ second ∷ bytes) other some =
 
 -- ---- a line of text
 
-pub text_byte : (byte : ℕ) → 32 ≤ byte → byte ≤ 126 → is_text_byte byte ≡ true
-text_byte byte low high = grind (arith, nat_tests)
-
 no_end_in_text : (byte : ℕ) → is_text_byte byte ≡ true → byte ≡ 10 → ⊥
 no_end_in_text byte text end = grind (arith, nat_tests)
 

@@ -45,10 +45,6 @@ pub arguments_of-none : (front : List ℤ) (kind : ArgKind) (kinds : List ArgKin
 unfolding arguments_of
 arguments_of-none front kind kinds word words h = ap (λ (o : Option ℤ). behind front (option_and_then (λ n. option_map (λ more. value_of kind n ∷ more) (arguments_of kinds words)) o)) h
 
-pub arguments_of-short : (front : List ℤ) (kind : ArgKind) (kinds : List ArgKind) → behind front (arguments_of (kind ∷ kinds) []) ≡ None
-unfolding arguments_of
-arguments_of-short front kind kinds = refl
-
 pub arguments_of-end : (front : List ℤ) (words : List (List ℕ)) → behind front (arguments_of [] words) ≡ Some front
 unfolding arguments_of
 arguments_of-end front words = ap Some (append-nil front)
@@ -67,12 +63,6 @@ numbers_done front words all none whole =
     sym (numbers_of-end front) ∙ ap (λ (ws : List (List ℕ)). behind front (numbers_of ws)) (sym none) ∙ whole
 
 -- one turn of the loop over kinds, or its end
-pub arguments_short : (front : List ℤ) (kinds : List ArgKind) (i : ℕ) (words : List (List ℕ)) (all : Option (List ℤ)) → i < length kinds → words ≡ [] → behind front (arguments_of (drop i kinds) words) ≡ all → None ≡ all
-arguments_short front kinds i words all within none whole =
-    sym (arguments_of-short front (get_or kinds i Enum) (drop (i + 1) kinds))
-    ∙ ap (λ (ks : List ArgKind). behind front (arguments_of ks [])) (sym (drop_more kinds i Enum within))
-    ∙ ap (λ (ws : List (List ℕ)). behind front (arguments_of (drop i kinds) ws)) (sym none) ∙ whole
-
 pub arguments_stop : (front : List ℤ) (kinds : List ArgKind) (i : ℕ) (words : List (List ℕ)) (word : List ℕ) (after : List (List ℕ)) (all : Option (List ℤ)) → i < length kinds → words ≡ word ∷ after → argument_of word ≡ None → behind front (arguments_of (drop i kinds) words) ≡ all → None ≡ all
 arguments_stop front kinds i words word after all within first none whole =
     sym (arguments_of-none front (get_or kinds i Enum) (drop (i + 1) kinds) word after none)

@@ -16,12 +16,6 @@ length-paired [] = refl
 length-paired (high ∷ []) = refl
 length-paired (high ∷ low ∷ digits) = omega (arith, length-paired digits)
 
--- fewer than two digits spell no byte
-pub paired-short : (digits : List ℕ) → length digits < 2 → paired digits ≡ []
-paired-short [] few = refl
-paired-short (high ∷ []) few = refl
-paired-short (high ∷ low ∷ digits) few = absurd (omega arith)
-
 -- digits in pairs are digits
 pub are_pairs-digits : (word : List ℕ) → IsTrue (are_pairs word) → list_all is_ascii_hexdigit word ≡ true
 are_pairs-digits word pairs = (and_parts (nat_lt 0 (length word) && length word % 2 == 0) (list_all is_ascii_hexdigit word) pairs).1

@@ -227,11 +227,10 @@ fn each_reply_has_its_numbers(rt: HostRuntime) -> Result<(), Fail> {
         pixels: 0,
     };
     let mut results = Results::new(alloc);
-    results.note(4, 1, &Call::GetError, Reply::Numbers(numbers))?;
-    results.note(5, 1, &Call::Flush, Reply::Nothing)?;
-    results.note(6, 1, &read, Reply::Bytes(octets(alloc, [0; 8])?))?;
-    results.note(7, 1, &read, Reply::Nothing)?;
-    results.note(8, 1, &Call::GetError, Reply::One(1280))?;
+    results.answer(4, 1, &Call::GetError, Reply::Numbers(numbers))?;
+    results.answer(6, 1, &read, Reply::Bytes(octets(alloc, [0; 8])?))?;
+    results.answer(7, 1, &read, Reply::Nothing)?;
+    results.answer(8, 1, &Call::GetError, Reply::One(1280))?;
     let rows: [(usize, u32, Call, &[i64]); 4] = [
         (0, 4, Call::GetError, &[7, -1]),
         (1, 6, read, &[8]),

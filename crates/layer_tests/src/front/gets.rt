@@ -17,11 +17,11 @@ fn a_get_of_tracked_state_is_answered_beside_calls_that_were_put_off(
         (
             Call::MatrixMode { mode: 0x9999 },
             Class::Defer,
-            Outcome::Nothing,
+            Outcome::NoReply,
             0,
         ),
         (MODE, Class::Answer, Outcome::Number(5888), 0),
-        (Call::PushMatrix, Class::Defer, Outcome::Nothing, 0),
+        (Call::PushMatrix, Class::Defer, Outcome::NoReply, 0),
         (DEPTH, Class::Answer, Outcome::Number(2), 0),
         (
             Call::VertexPointer {
@@ -31,7 +31,7 @@ fn a_get_of_tracked_state_is_answered_beside_calls_that_were_put_off(
                 pointer: 100,
             },
             Class::Defer,
-            Outcome::Nothing,
+            Outcome::NoReply,
             0,
         ),
         (
@@ -46,7 +46,7 @@ fn a_get_of_tracked_state_is_answered_beside_calls_that_were_put_off(
         (
             Call::EnableClientState { array: 0x8074 },
             Class::Defer,
-            Outcome::Nothing,
+            Outcome::NoReply,
             0,
         ),
         (
@@ -61,7 +61,7 @@ fn a_get_of_tracked_state_is_answered_beside_calls_that_were_put_off(
                 param: 1,
             },
             Class::Defer,
-            Outcome::Nothing,
+            Outcome::NoReply,
             0,
         ),
         (
@@ -121,9 +121,9 @@ fn a_get_of_tracked_state_is_answered_beside_calls_that_were_put_off(
             Outcome::Nothing,
             1,
         ),
-        (CLEAR, Class::Defer, Outcome::Nothing, 1),
-        (Call::Finish, Class::Sync, Outcome::Nothing, 2),
-        (Call::PopMatrix, Class::Defer, Outcome::Nothing, 2),
+        (CLEAR, Class::Defer, Outcome::NoReply, 1),
+        (Call::Finish, Class::Sync, Outcome::NoReply, 2),
+        (Call::PopMatrix, Class::Defer, Outcome::NoReply, 2),
         (
             Call::GetIntegerv {
                 pname: 0x0BA3,
@@ -133,7 +133,7 @@ fn a_get_of_tracked_state_is_answered_beside_calls_that_were_put_off(
             Outcome::Number(1),
             2,
         ),
-        (Call::Flush, Class::Defer, Outcome::Nothing, 3),
+        (Call::Flush, Class::Defer, Outcome::NoReply, 3),
     ];
     let mut maker = InlineMaker::new();
     let mut front = front_of_sixteen(rt.alloc(), &mut maker, 100)?;
@@ -167,8 +167,8 @@ fn a_front_whose_driver_was_refused_memory_answers_until_a_call_waits(
 ) -> Result<(), Fail> {
     let projection = Call::MatrixMode { mode: 0x1701 };
     let rows = [
-        (projection, Class::Defer, Outcome::Nothing, 0),
-        (Call::Flush, Class::Defer, Outcome::Nothing, 1),
+        (projection, Class::Defer, Outcome::NoReply, 0),
+        (Call::Flush, Class::Defer, Outcome::NoReply, 1),
         (MODE, Class::Answer, Outcome::Number(5889), 1),
         (Call::GetError, Class::Sync, Outcome::Refused, 1),
         (DEPTH, Class::Answer, Outcome::Refused, 1),

@@ -1,7 +1,11 @@
-use Rattle.std.proofs.Common.{refl}
+use Rattle.std.proofs.Common.{◌∙◌, ap, refl, subst, sym, Option}
+use Rattle.std.specs.Prelude.{is_some}
 use Rattle.std.proofs.lemmas.Result.{on_ok_weaker, on_err_weaker}
-use Rattle.driver_trait.specs.Reply.{replied}
-use Rattle.replay_lines.proofs.RunLemmas.{OnErr-always, on_err_known, added_or_not, RunsOn-mem, RunsOn-image, RunsOn-call, StopsOn-still, StopsOn-refused, StopsOn-untold}
+use Rattle.driver_trait.specs.declared.reply.Reply.{Reply}
+use Rattle.driver_trait.specs.Reply.{Nothing, replied}
+use Rattle.gl_front.specs.Given.{given_by}
+use Rattle.gl_front.specs.Taking.{TakesCall}
+use Rattle.replay_lines.proofs.RunLemmas.{OnErr-always, added_or_not, nothing_told, RunsOn-mem, RunsOn-image, RunsOn-call, StopsOn-still, StopsOn-refused, StopsOn-untold}
 use Rattle.replay_lines.proofs.lines.run_line.Goals as goal
 
 pub returns-in-Mem-clause-ok : goal.returns-in-Mem-clause-ok
@@ -36,25 +40,30 @@ returns-in_ok-what-in-Image-clause-stopped g c =
     (StopsOn-still g.D.Machine.tracked g.D.Machine.steps g.R.RailState.stands g.R.RailState.failed g.R.RailState.journal g.R.RailState.sent c.args.line.now c.args.front.now c.args.results.now c.push.new.self)
     c.push.ensures.err
 
-pub returns-in_ok-reply-in-Gl-clause-ok : goal.returns-in_ok-reply-in-Gl-clause-ok
-returns-in_ok-reply-in-Gl-clause-ok g c =
-    let issued = c.in_ok-reply-in-Gl.ensures in
-    on_ok_weaker c.note.result
-    (RunsOn-call g.D.Machine.tracked g.D.Machine.steps g.R.RailState.stands g.R.RailState.journal g.R.RailState.failed g.R.RailState.sent c.args.line.now
-    c.in-Gl.call (replied c.in_ok-reply-in-Gl.reply) c.args.front.now c.issue.new.self c.args.results.now c.note.new.self
-    c.in-Gl.is c.knows_tracked.ensures issued.ok)
-    c.note.ensures.ok
-
-pub returns-in_ok-reply-in-Gl-clause-stopped : goal.returns-in_ok-reply-in-Gl-clause-stopped
-returns-in_ok-reply-in-Gl-clause-stopped g c =
-    on_err_known c.note.result
-    (λ asks same. StopsOn-untold g.D.Machine.tracked g.D.Machine.steps g.R.RailState.stands g.R.RailState.failed g.R.RailState.journal g.R.RailState.sent c.args.line.now
-    c.in-Gl.call (replied c.in_ok-reply-in-Gl.reply) c.args.front.now c.issue.new.self c.args.results.now c.note.new.self
-    c.in-Gl.is c.knows_tracked.ensures c.in_ok-reply-in-Gl.ensures.ok asks same)
-    c.note.ensures.asked c.note.ensures.err
-
 pub returns-in_ok-what-in-Image-clause-kept : goal.returns-in_ok-what-in-Image-clause-kept
 returns-in_ok-what-in-Image-clause-kept g c = added_or_not c.push.result c.args.results.now c.push.new.self _ c.push.ensures.ok c.push.ensures.err
 
-pub returns-in_ok-reply-in-Gl-clause-kept : goal.returns-in_ok-reply-in-Gl-clause-kept
-returns-in_ok-reply-in-Gl-clause-kept g c = added_or_not c.note.result c.args.results.now c.note.new.self _ c.note.ensures.ok c.note.ensures.err
+pub returns-in-Some-clause-ok : goal.returns-in-Some-clause-ok
+returns-in-Some-clause-ok g c =
+    on_ok_weaker c.answer.result
+    (RunsOn-call g.D.Machine.tracked g.D.Machine.steps g.R.RailState.stands g.R.RailState.journal g.R.RailState.failed g.R.RailState.sent c.args.line.now
+    c.in-Gl.call (replied c.in-Some.reply) c.args.front.now c.issue.new.self c.args.results.now c.answer.new.self
+    c.in-Gl.is c.knows_tracked.ensures (subst (λ (given : Option Reply). TakesCall g.R.RailState.stands g.R.RailState.failed g.R.RailState.journal g.R.RailState.sent g.D.Machine.steps c.args.front.now c.issue.new.self c.in-Gl.call (given_by given)) c.in-Some.is c.in_ok-reply-in-Gl.ensures.ok))
+    c.answer.ensures.ok
+
+pub returns-in-Some-clause-stopped : goal.returns-in-Some-clause-stopped
+returns-in-Some-clause-stopped g c =
+    let issued = c.in_ok-reply-in-Gl.ensures in
+    on_err_weaker c.answer.result
+    (StopsOn-untold g.D.Machine.tracked g.D.Machine.steps g.R.RailState.stands g.R.RailState.failed g.R.RailState.journal g.R.RailState.sent c.args.line.now
+    c.in-Gl.call (replied c.in-Some.reply) c.args.front.now c.issue.new.self c.args.results.now c.answer.new.self
+    c.in-Gl.is c.knows_tracked.ensures (subst (λ (given : Option Reply). TakesCall g.R.RailState.stands g.R.RailState.failed g.R.RailState.journal g.R.RailState.sent g.D.Machine.steps c.args.front.now c.issue.new.self c.in-Gl.call (given_by given)) c.in-Some.is issued.ok) (sym issued.asked ∙ ap is_some c.in-Some.is))
+    c.answer.ensures.err
+
+pub returns-in-None-clause-ok : goal.returns-in-None-clause-ok
+returns-in-None-clause-ok g c =
+    let issued = c.in_ok-reply-in-Gl.ensures in
+    RunsOn-call g.D.Machine.tracked g.D.Machine.steps g.R.RailState.stands g.R.RailState.journal g.R.RailState.failed g.R.RailState.sent c.args.line.now
+    c.in-Gl.call Nothing c.args.front.now c.issue.new.self c.args.results.now c.args.results.now
+    c.in-Gl.is c.knows_tracked.ensures (subst (λ (given : Option Reply). TakesCall g.R.RailState.stands g.R.RailState.failed g.R.RailState.journal g.R.RailState.sent g.D.Machine.steps c.args.front.now c.issue.new.self c.in-Gl.call (given_by given)) c.in-None.is issued.ok)
+    (nothing_told c.args.line.now.number c.args.line.now.context c.in-Gl.call Nothing c.args.results.now (sym issued.asked ∙ ap is_some c.in-None.is))

@@ -1,9 +1,10 @@
 //! Calls that go through the layer, beside the driver alone.
 
-use crate::{Counter, told_through, two_clears};
 use batch_rail::InlineMaker;
 use driver_trait::{Driver, Reply};
+use example_driver::{Counter, told_through, two_clears};
 use gl_memory::ClientMemory;
+use gl_words::is_answering;
 use replay_lines::{Printed, Results, What};
 use script_reader::{Act, Line, read};
 use std::alloc::{AllocError as NoMemory, Global};
@@ -46,7 +47,9 @@ fn told_by_driver<T: Threads + Sync>(
     for line in lines {
         if let Act::Gl(call) = &line.act {
             let reply = driver.call(rt, call, &memory)?;
-            results.note(line.number, line.context, call, reply)?;
+            if is_answering(call) {
+                results.answer(line.number, line.context, call, reply)?;
+            }
         }
     }
     Ok((results, driver))
