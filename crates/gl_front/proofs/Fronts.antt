@@ -11,8 +11,16 @@ use Rattle.driver_trait.specs.Reply.{Replied, Nothing, Numbers}
 use Rattle.gl_tracked.specs.Reads.{AgreesOn}
 use Rattle.gl_tracked.specs.Step.{number_asked, reads_of, tracked_after}
 use Rattle.batch_rail.specs.Run.{RunsFrom}
-use Rattle.batch_rail.proofs.Runs.{RunsFrom-last, RunsFrom-from_nil, starts_from_nil}
+use Rattle.batch_rail.proofs.Runs.{RunsFrom-last, RunsFrom-append, RunsFrom-from_nil, starts_from_nil}
 use Rattle.gl_front.specs.Front.{FrontView, StandsFor}
+
+-- where the states reached by some calls were reached by others before, a call behind them is one behind the others
+pub runs_on : {S : Type 0} (steps : Steps S) (old new : S → Type 0) (calls new_calls : List Spelled) (call : Spelled) → ((st : S) → RunsFrom new steps new_calls st → RunsFrom old steps calls st)
+    → (st2 : S) → RunsFrom new steps (new_calls ++ call ∷ []) st2 → RunsFrom old steps (calls ++ call ∷ []) st2
+runs_on {S} steps old new calls new_calls call leads st2 runs =
+    let last = RunsFrom-last steps new new_calls call st2 runs in
+    RunsFrom-append steps old (λ (st : S). RunsFrom new steps new_calls st) calls (call ∷ []) st2 leads
+    (record { start = last.0; may_start = last.2; run = (st2, last.1, last.3, refl) })
 
 module _ {R S : Type 0} (stands : R → S → Type 0) (tracked : S → Tracked) (steps : Steps S) where
   -- a call on segments that agree with memory where it reads is the call on memory

@@ -2,7 +2,7 @@
 
 ghost use Rattle.std.specs.Prelude.{◌≡◌, ◌^◌, ◌<◌, [], Some, true, false, is_some, IsErr, IfOk, IfErr, OnOk, OnErr};
 ghost use Rattle.gl_words.specs.Call.{is_answering, IsInRange};
-ghost use Rattle.batch_pack.specs.Batch.{captured};
+ghost use Rattle.batch_pack.specs.Batch.{IsBatchSize, captured};
 ghost use Rattle.batch_pack.specs.Heading.{IsHeadingOf};
 ghost use Rattle.client_shadow.specs.declared.class.Class.TheVariants.{Answer, Sync, Defer};
 ghost use Rattle.client_shadow.specs.Class.{pieces_of};
@@ -19,7 +19,7 @@ ghost use Rattle.gl_front.specs.Given.{given_by};
 ghost use Rattle.gl_front.specs.Taking.{TakesCall, IsIssued, IsAnswered, HasWaited, Flushes, RefusesCall, KeepsCount};
 
 use crate::counts::Counts;
-use crate::steps::{await_all, carry_out, put_off, submit_unless_empty};
+use crate::steps::{await_all, carry_out, put_off, submit_open};
 use batch_pack::{Batch, Heading};
 use batch_rail::Rail;
 use client_shadow::{Becomes, Class, Look, Shadow};
@@ -114,6 +114,7 @@ impl<D: Driver, R: Rail<D>> Front<D, R> {
     pub fn slots(&self) -> u32
         ensures size { result ≡ self.now.size }
         ensures rail { R.size self.now.rail ≡ self.now.size }
+        ensures bounds { IsBatchSize self.now.size }
     {
         self.rail.slots()
     }
@@ -294,11 +295,7 @@ impl<D: Driver, R: Rail<D>> Front<D, R> {
         ensures kept { self.old.calls ≡ [] → self.new.rail ≡ self.old.rail }
         ensures rises { KeepsCount R.sent self.old self.new }
     {
-        let Some(batch) = self.batch.take() else {
-            return;
-        };
-        let (batch, sent) = submit_unless_empty(rt, &mut self.rail, batch);
-        self.batch = Some(batch);
+        let sent = submit_open(rt, &mut self.rail, &mut self.batch);
         self.counts.batches += sent;
     }
 

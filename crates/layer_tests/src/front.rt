@@ -10,6 +10,7 @@ ghost use Rattle.gl_front.specs.Taking.{KeepsCount};
 
 mod doubles;
 mod gets;
+mod waits;
 
 use batch_rail::{InlineMaker, Rail, RailMaker};
 use client_shadow::Class;
@@ -46,6 +47,7 @@ fn rail_of_sixteen<M: RailMaker<Limited>>(
     let driver = Limited {
         recorder: Recorder::new(alloc),
         room,
+        asked: 0,
     };
     let Ok(rail) = maker.launch(alloc, 0, driver, 16, 4) else {
         return Err(AllocError);

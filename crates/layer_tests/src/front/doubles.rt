@@ -12,11 +12,13 @@ use std::alloc::{AllocError, AllocError as NoMemory};
 use std::marker::Model;
 use std::thread::Threads;
 
-/// A recorder that is refused memory where it met as many calls as it has room for.
+/// A recorder that is refused memory where it met as many calls as it has room for, and counts what it was asked: the gets
+/// of tracked state too, which a recorder doesn't keep.
 #[derive(Drop)]
 pub(super) struct Limited {
     pub(super) recorder: Recorder,
     pub(super) room: usize,
+    pub(super) asked: u64,
 }
 
 impl Model for Limited {
@@ -42,6 +44,7 @@ impl Driver for Limited {
         call: &Call,
         memory: &M,
     ) -> Result<Reply, NoMemory> {
+        self.asked = self.asked.saturating_add(1);
         if self.recorder.calls().len() >= self.room {
             return Err(AllocError);
         }
