@@ -574,34 +574,3 @@ images 1
 end
 ~frame-0.ppm 50360a3120310a3235350a000000
 ";
-
-/// A run with an object that fails: which, the number of its call that fails, how many bytes a call moves, how many images
-/// stand, how many bytes of the report were written, and how the run ends. The script takes six reads of 16 bytes and one
-/// that finds its end, and the report three writes.
-pub(crate) const FAULTS: &str = "\
-source 0 16 0 0: read fault
-source 1 16 0 0: read fault
-source 2 16 0 0: read fault
-source 3 16 0 0: read fault
-source 4 16 0 0: read fault
-source 5 16 0 0: read fault
-source 6 16 0 0: read fault
-source 7 16 1 41: done
-shelf 0 16 0 0: shelf fault after 0 images
-shelf 1 16 1 41: done
-sink 0 16 1 0: write fault
-sink 1 16 1 16: write fault
-sink 2 16 1 32: write fault
-sink 3 16 1 41: done
-sink 1 10 1 10: write fault
-sink 41 1 1 41: done
-sink 6 7 1 41: done
-";
-
-/// The same of a script of three images. Its report has 41 bytes too.
-pub(crate) const FAILED_PUTS: &str = "\
-shelf 0 64 0 0: shelf fault after 0 images
-shelf 1 64 1 0: shelf fault after 1 images
-shelf 2 64 2 0: shelf fault after 2 images
-shelf 3 64 3 41: done
-";

@@ -166,7 +166,7 @@ fn lines_of_a_context_run_over_another_driver(rt: HostRuntime) -> Result<(), Fai
 }
 
 // Of the four bytes of a number those in memory are written, and the number is told all the same. An image has its lowest
-// row first. The bytes were worked by hand, and a plain program by other hands gives the same.
+// row first. The bytes were worked by hand, and another program gives the same.
 #[test]
 fn bytes_past_the_end_of_memory_are_dropped(rt: HostRuntime) -> Result<(), Fail> {
     let alloc = rt.alloc();

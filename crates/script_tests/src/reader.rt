@@ -1,5 +1,5 @@
 //! What no clause says: that scripts are read at all, how a refusal is printed, and that the definitions
-//! agree with the worked examples and with a reference program.
+//! agree with another program.
 //!
 //! In a table a row is an answer and, behind ` : `, the script that has it. There `;` stands for LF, `^` for CR, `~` for the
 //! byte 0x7F, and `$` for two lines, the head and a context of 4 by 4 pixels without memory.
@@ -12,7 +12,7 @@ use std::test::Fail;
 
 const RED: &str = "$0 ClearColorx 65536 0 0 65536;0 Clear COLOR_BUFFER_BIT;end;";
 
-// The first example, and what a comment, blanks, line ends and other spellings of the numbers leave of it. Then digits of
+// A script, and what a comment, blanks, line ends and other spellings of the numbers leave of it. Then digits of
 // either case, and numbers in several spellings; the values are those of the rules in FORMATS.md.
 const READ: &str = "\
 4 4 0, 3: 0 ClearColorx 65536 0 0 65536, 4: 0 Clear 16384 : $0 ClearColorx 65536 0 0 65536;0 Clear COLOR_BUFFER_BIT;end;
@@ -35,7 +35,7 @@ fn a_script_is_read_as_its_lines_say(rt: HostRuntime) -> Result<(), Fail> {
     Ok(())
 }
 
-// The refusals are those of the worked examples, of a reference program, and of the table in FORMATS.md.
+// The refusals are those of another program, and of the table in FORMATS.md.
 const REFUSED: &str = "\
 line 1: NoEnd :\x20
 line 1: BadHeader : glscript 9;
@@ -241,7 +241,7 @@ fn a_name_is_at_most_32_letters_digits_hyphens_and_underscores(
 }
 
 // So many images of 256 by 256 pixels stand before the other lines. 340 images and the context leave 21,845 pixels. The
-// first two rows are a worked example.
+// first two rows were worked by hand.
 const IMAGES: &str = "\
 340 read : end;
 341 line 343: TooMany ImageBytes : end;
@@ -265,7 +265,7 @@ fn images_take_at_most_67108864_bytes(rt: HostRuntime) -> Result<(), Fail> {
     Ok(())
 }
 
-// Each limit of size at its last accepted and its first refused value: behind the first example stand so many empty lines,
+// Each limit of size at its last accepted and its first refused value: behind a script stand so many empty lines,
 // then a comment up to so many bytes.
 const LIMITS: &str = "\
 262139 0 read :\x20
