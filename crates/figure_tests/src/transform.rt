@@ -338,7 +338,10 @@ fn a_popped_stack_has_the_matrix_that_lay_below(rt: HostRuntime) {
 #[test]
 fn a_refusal_of_a_stack_says_what_was_wrong(rt: HostRuntime) -> Result<(), Fail> {
     let told = format!(in rt.alloc(); "{}, {}", Full, Bottom)?;
-    assert_eq!(rt; told.as_str(), "the stack is full, the stack holds one matrix");
+    assert_eq!(rt;
+        told.as_str(),
+        "the stack is full, the stack holds one matrix"
+    );
     Ok(())
 }
 

@@ -1,8 +1,8 @@
 //! What no clause says: that calls and names are found at all, against numbers from outside.
 
 use gl_words::{
-    Call, GlError, arg_at, arguments_of, call_from, call_id, call_in, call_law, call_name, is_answering,
-    low_bits, number_of_enum, row_of, shape_of_name,
+    Call, GlError, arg_at, arguments_of, call_from, call_id, call_in, call_law, call_name,
+    is_answering, low_bits, number_of_enum, row_of, shape_of_name,
 };
 use std::process::Abort;
 use std::test::Fail;

@@ -170,8 +170,7 @@ impl<D: Shows> Plain<D> {
         let reply = self.driver.call(rt, call, &self.memory)?;
         write_reply(&mut self.memory, self.driver.shown(), call, &reply);
         if asks {
-            self.results
-                .answer(line.number, line.context, call, reply)
+            self.results.answer(line.number, line.context, call, reply)
         } else {
             Ok(())
         }

@@ -32,7 +32,7 @@ unreachable-requires g c = a_get_has_a_reply c.in_ok-told.field-0 0x0D33 4 c.in_
 told : (g : Over) (c : Joined-none-9 g) → (replied c.in-Some.told ≡ Numbers (pos 2 ∷ [])) × (c.in_ok-driver.driver.clears ≡ 2)
 told g c =
     let taken : FrontView (InlineRail Counter) → FrontView (InlineRail Counter) → Replied → Type 0 = λ old new reply.
-        TakesCall (λ rail st. HasDriver rail.failed rail.driver st) (λ rail. rail.failed ≡ true) (λ rail. None) (λ rail. rail.sent) CounterSteps old new (GetIntegerv 0x0D33 4) reply in
+    TakesCall (λ rail st. HasDriver rail.failed rail.driver st) (λ rail. rail.failed ≡ true) (λ rail. None) (λ rail. rail.sent) CounterSteps old new (GetIntegerv 0x0D33 4) reply in
     two_are_told (λ rail st. HasDriver rail.failed rail.driver st) (λ rail. rail.failed ≡ true) (λ rail. None) (λ rail. rail.sent)
     c.in-Ok.rail c.into_parts-memory.result.0 c.in-Ok.rail.slots c.in_ok-memory.memory _ c.in-Ok-new.front c.write_memory.new.self c.issue.new.self c.issue-2.new.self c.issue-3.new.self c.finish.new.self
     (given_by c.in_ok-_none._none) (given_by c.in_ok-_again._again) (replied c.in-Some.told) 4 c.in_ok-driver.driver
