@@ -1,10 +1,9 @@
 -- The spelling of a call with its segments and of several: how long it is, and that what is read from it is what was spelled.
-use Rattle.std.proofs.Common.{◌≡◌, ℕ, zero, suc, ◌+◌, ◌-◌, ◌<◌, ◌≤◌, List, [], ◌∷◌, ◌++◌, length, map, drop, Option, Some, None, refl, sym, ap, ◌∙◌, subst, arith}
+use Rattle.std.proofs.Common.{◌≡◌, ℕ, zero, suc, ◌+◌, ◌-◌, ◌≤◌, List, [], ◌∷◌, ◌++◌, length, map, drop, Option, Some, None, refl, sym, ap, ◌∙◌, subst, arith}
 use Rattle.std.specs.Prelude.{unwrap_or}
-use Rattle.std.specs.List.{flat_map, All}
+use Rattle.std.specs.List.{flat_map}
 use Rattle.std.specs.Option.{option_map}
 use Rattle.std.proofs.lemmas.List.{append-nil, append_assoc, append_cancel_left, length-append, length-map, drop_at}
-use Rattle.std.proofs.lemmas.List.Elements.{All-weaker, All-from_recursion}
 use Rattle.std.proofs.lemmas.List.Concat.{flat_map-append}
 use Rattle.std.proofs.lemmas.List.Sums.{sum-map}
 use Rattle.gl_words.specs.Call.{id_of, arguments}
@@ -13,8 +12,8 @@ use Rattle.gl_words.specs.Slots.{slot_of, call_begun}
 use Rattle.gl_words.specs.declared.call.Call.{Call}
 use Rattle.gl_words.proofs.Rows.{argument_count-again, small_id}
 use Rattle.gl_words.proofs.Slotted.{call_begun-again}
-use Rattle.gl_memory.specs.Segment.{Segment, AreBytes}
-use Rattle.batch_pack.specs.Spelling.{Spelled, segment_slots, segment_spelling, slots_of, header_of, spelling_of, spellings_of, HasSpelling, HaveSpellings, SpellingLaw, IsSegment}
+use Rattle.gl_memory.specs.Segment.{Segment}
+use Rattle.batch_pack.specs.Spelling.{Spelled, segment_slots, segment_spelling, slots_of, header_of, spelling_of, spellings_of, HasSpelling, HaveSpellings, SpellingLaw}
 use Rattle.batch_pack.specs.Decoding.{id_said, slots_said, segments_said, arguments_said, call_at, segments_at, spelled_at, followed_by, calls_read, calls_in}
 use Rattle.batch_pack.specs.Holding.{AreReadable}
 use Rattle.batch_pack.proofs.SegmentLemmas.{length-segments, segments_at-spelled}

@@ -1,9 +1,9 @@
 -- Writing a spelling slot by slot: the arguments, the pieces one after another, and the bytes of each.
-use Rattle.std.proofs.Common.{◌≡◌, ℕ, ◌+◌, ◌-◌, ◌*◌, ◌^◌, ◌<◌, ◌≤◌, ℤ, List, [], ◌∷◌, ◌++◌, length, slice_index, map, take, drop, replicate, min, zero, suc, Some, inl, inr, refl, sym, ap, ◌∙◌, arith}
+use Rattle.std.proofs.Common.{◌≡◌, ℕ, ◌+◌, ◌-◌, ◌*◌, ◌^◌, ◌<◌, ◌≤◌, List, [], ◌∷◌, ◌++◌, length, slice_index, map, take, drop, replicate, min, zero, suc, Some, inl, inr, refl, sym, ap, ◌∙◌, arith}
 use Rattle.std.specs.Int.{from_le_bytes, w64}
 use Rattle.std.specs.List.{slice_get, flat_map, range_with_len, sum_by}
 use Rattle.std.proofs.lemmas.Bool.{cases_lt}
-use Rattle.std.proofs.lemmas.List.{append_assoc, length-append, length-map, length-take-le, take_more, take_all, map-append, take-append-drop, get_or-map, get_or_past, get_or-take, get_or-drop, get_or_append_left, get_or-append_right, length-drop, flat_map_more}
+use Rattle.std.proofs.lemmas.List.{append_assoc, length-append, length-map, length-take-le, take_more, take_all, take-append-drop, get_or-map, get_or_past, get_or-take, get_or-drop, get_or_append_left, get_or-append_right, length-drop, flat_map_more}
 use Rattle.std.proofs.lemmas.List.Concat.{flat_map-append}
 use Rattle.std.proofs.lemmas.List.FromFn.{map-range_with_len_more}
 use Rattle.std.proofs.lemmas.List.Sums.{sum-map, sum_by-cons}

@@ -1,15 +1,14 @@
 -- How calls are cut into batches, one call at a time, as equations to rewrite by. 'Fits' is said as `Batch::try_pack` says it.
-use Rattle.std.proofs.Common.{◌≡◌, ℕ, ◌+◌, ◌-◌, ◌<◌, ◌≤◌, Bool, true, false, cond, List, [], ◌∷◌, ◌++◌, length, refl, ap, zero-add, ◌∙◌, arith}
+use Rattle.std.proofs.Common.{◌≡◌, ℕ, ◌+◌, ◌<◌, ◌≤◌, Bool, true, false, cond, List, [], ◌∷◌, ◌++◌, length, refl, ap, zero-add, ◌∙◌, arith}
 use Rattle.std.proofs.lemmas.Bool.Decides.{nat_tests}
-use Rattle.std.proofs.lemmas.List.{append-nil, length-append}
+use Rattle.std.proofs.lemmas.List.{length-append}
 use Rattle.std.proofs.lemmas.List.Sums.{sum_by-append}
 use Rattle.client_shadow.specs.declared.class.Class.{Class}
-use Rattle.client_shadow.specs.declared.class.Class.TheVariants.{Answer, Sync, Defer}
+use Rattle.client_shadow.specs.declared.class.Class.TheVariants.{Answer, Sync}
 use Rattle.batch_pack.specs.Spelling.{Spelled, slots_of}
-use Rattle.batch_pack.specs.Batch.{BatchView, empty_batch, slots_left}
-use Rattle.client_shadow.specs.Flush.{is_flush}
+use Rattle.batch_pack.specs.Batch.{empty_batch, slots_left}
 use Rattle.client_shadow.specs.Cutting.{Issued, batch_unless_empty, fits_behind, joined, cut_before, ended_by, open_by, ended_at, open_after, batches_from, is_class, count_of}
-use Rattle.batch_pack.proofs.Packings.{slots_used-nil, slots_used-append, slots_used-one}
+use Rattle.batch_pack.proofs.Packings.{slots_used-nil}
 use Rattle.batch_pack.proofs.Parsing.{some_slots}
 
 -- one call first: what ends at it, and then the others behind what is open after it

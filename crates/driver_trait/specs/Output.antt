@@ -1,5 +1,5 @@
 -- Where a reply is written in client memory; sections 4.3.1 and 6.1, the form of what a driver may reply beside that own. No driver stands here.
-use Rattle.std.specs.Prelude.{ℕ, zero, suc, ◌+◌, ◌*◌, ◌/◌, ◌%◌, ◌^◌, ◌-◌, ℤ, pos, negsuc, List, [], ◌∷◌, take, drop, Option, Some, None}
+use Rattle.std.specs.Prelude.{ℕ, zero, suc, ◌+◌, ◌*◌, ◌/◌, ◌%◌, ◌^◌, ℤ, pos, negsuc, List, [], ◌∷◌, take, drop, Option, Some, None}
 use Rattle.std.specs.List.{flat_map}
 use Rattle.gl_words.specs.declared.call.Call.{Call}
 use Rattle.gl_words.specs.declared.call.Call.TheVariants.{GetFixedv, GetIntegerv, GetPointerv, ReadPixels}

@@ -1,14 +1,13 @@
 -- What is cut out of a memory has the memory's bytes.
-use Rattle.std.proofs.Common.{◌≡◌, ℕ, inl, inr, ◌+◌, ◌-◌, ◌<◌, ◌≤◌, List, [], ◌∷◌, length, take, drop, slice_index, Some, refl, sym, ap, ◌∙◌, arith}
+use Rattle.std.proofs.Common.{◌≡◌, ℕ, inl, inr, ◌+◌, ◌-◌, ◌<◌, List, [], ◌∷◌, length, slice_index, Some, refl, sym, ap, ◌∙◌, arith}
 use Rattle.std.proofs.lemmas.Bool.{cases_lt}
-use Rattle.std.proofs.lemmas.List.{length-drop, length-take-le, get_or-drop, get_or-take, ext_get_or}
+use Rattle.std.proofs.lemmas.List.{ext_get_or}
 use Rattle.std.proofs.lemmas.List.Elements.{All-nil, All-cons, All-head, All-tail, All-weaker}
 use Rattle.std.proofs.lemmas.List.FromFn.{length-map-range_with_len, get_or-map-range_with_len}
 use Rattle.gl_memory.specs.declared.piece.Piece.{Piece}
-use Rattle.gl_memory.specs.ClientMemory.{memory_of}
 use Rattle.gl_memory.specs.Segment.{Segment, byte_in, byte_at}
 use Rattle.gl_memory.specs.Piece.{LiesIn, Agree, bytes_from, cut_out, cut}
-use Rattle.gl_memory.proofs.Bytes.{byte_in-inside, byte_in-before, byte_in-behind, byte_at-first, byte_at-others, byte_at-memory_of}
+use Rattle.gl_memory.proofs.Bytes.{byte_in-inside, byte_in-before, byte_in-behind, byte_at-first, byte_at-others}
 
 pub length-bytes_from : (memory : List Segment) (start len : ℕ) → length (bytes_from memory start len) ≡ len
 unfolding bytes_from

@@ -1,6 +1,5 @@
 -- The table of shapes, as the columns of the table of calls.
-use Rattle.std.proofs.Common.{◌≡◌, ◌≢◌, ℕ, ◌≤◌, List, [], ◌∷◌, length, map, refl, sym, ap, ◌∙◌, subst, Some, None, Option, IfSome, IsSomeAnd}
-use Rattle.std.specs.Option.{option_map}
+use Rattle.std.proofs.Common.{◌≡◌, ◌≢◌, ℕ, ◌≤◌, List, [], ◌∷◌, length, map, refl, sym, ap, ◌∙◌, subst, Some, None, Option, IfSome}
 use Rattle.std.specs.Str.{bytes_eq}
 use Rattle.std.proofs.lemmas.Slice.Eq.{bytes_eq-Decides}
 use Rattle.gl_words.proofs.Counts.{row_is, no_row_missing}
@@ -11,7 +10,7 @@ use Rattle.gl_words.specs.Table.{Told, told, told_by}
 use Rattle.gl_words.specs.declared.table.TableRow.{TableRow}
 use Rattle.gl_words.specs.Call.{name_of, id_of, kinds_of, each_call}
 use Rattle.gl_words.specs.Lookup.{found_in}
-use Rattle.gl_words.specs.Shape.{IsShapeOf, IsNamedShape, shapes, shape_named, seen_shape}
+use Rattle.gl_words.specs.Shape.{IsNamedShape, shapes, shape_named}
 use Rattle.gl_words.specs.declared.shape.ArgKind.{ArgKind}
 use Rattle.gl_words.specs.declared.shape.Shape.{Shape}
 use Rattle.gl_words.specs.declared.call.Call.{Call}

@@ -1,4 +1,4 @@
-use Rattle.std.proofs.Common.{rules, sym, ◌∙◌, SFits, w64}
+use Rattle.std.proofs.Common.{rules, sym, SFits, w64}
 use Rattle.std.proofs.lemmas.Int.{to_z-of_z}
 use Rattle.driver_trait.proofs.Recordings.{answered_by, unanswered_by, recorded_by}
 use Rattle.driver_trait.proofs.recorder.RecorderDriver.call.Goals as goal
