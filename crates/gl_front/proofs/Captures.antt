@@ -1,5 +1,5 @@
--- A call as a front issues it, and as it packs it: with the pieces that are captured for it.
-use Rattle.std.proofs.Common.{◌≡◌, ℕ, ◌≤◌, List, Option, Some, refl, sym, ap, subst, ◌∙◌}
+-- The open batch that is there, and a call as a front issues it and packs it: with the pieces that are captured for it.
+use Rattle.std.proofs.Common.{◌≡◌, ℕ, ◌<◌, ◌≤◌, List, [], ◌∷◌, Option, Some, refl, sym, ap, subst, ◌∙◌, arith}
 use Rattle.std.specs.Prelude.{MatchOption}
 use Rattle.gl_words.specs.declared.call.Call.{Call}
 use Rattle.gl_memory.specs.Piece.{cut}
@@ -8,16 +8,18 @@ use Rattle.gl_memory.specs.ClientMemory.{memory_of}
 use Rattle.gl_memory.specs.declared.piece.Piece.{Piece}
 use Rattle.client_shadow.specs.declared.class.Class.{Class}
 use Rattle.client_shadow.specs.declared.class.Class.TheVariants.{Defer}
-use Rattle.batch_pack.specs.Batch.{BatchView, captured, slots_left}
-use Rattle.client_shadow.specs.Cutting.{ended_at, ended_by, open_after, open_by}
+use Rattle.batch_pack.specs.Batch.{BatchView, captured, slots_left, slots_used}
+use Rattle.client_shadow.specs.Cutting.{batch_unless_empty, cut_before, ended_at, ended_by, open_after, open_by}
 use Rattle.batch_pack.specs.Spelling.{Spelled, slots_of}
 use Rattle.gl_tracked.specs.declared.tracked.Tracked.{Tracked}
 use Rattle.gl_tracked.specs.Reads.{AgreesOn}
 use Rattle.gl_tracked.specs.Step.{reads_of}
 use Rattle.client_shadow.specs.Class.{class_of, captured_for, issued_at, pieces_of}
+use Rattle.client_shadow.proofs.Batching.{cut_before-full}
 use Rattle.client_shadow.proofs.Classes.{slots_of-defer}
 use Rattle.client_shadow.proofs.Capturing.{captured_agrees, captured-captured_for}
 use Rattle.gl_front.specs.FrontState.{open_calls}
+use Rattle.gl_front.proofs.Cuttings.{nil_from_slots, some_from_slots}
 
 -- the open batch that is there has the calls, and the slots left, that are seen of it
 module _ (held : Option BatchView) (batch : BatchView) (is : held ≡ Some batch) where
@@ -30,6 +32,25 @@ module _ (held : Option BatchView) (batch : BatchView) (is : held ≡ Some batch
       let resized : ℕ → BatchView = λ n. record { size = n; calls = batch.calls } in
       let with_calls : List Spelled → BatchView = λ l. record { size = size; calls = l } in
       ap slots_left (ap resized same ∙ ap with_calls batch_calls)
+
+  -- without slots in use it has no calls, and else they are a batch
+  pub nil_held : slots_used batch.calls ≡ 0 → open_calls held ≡ []
+  nil_held none = sym batch_calls ∙ nil_from_slots batch.calls none
+
+  pub some_held : 1 ≤ slots_used batch.calls → batch_unless_empty (open_calls held) ≡ open_calls held ∷ []
+  some_held some = some_from_slots (open_calls held) (omega (arith, some, ap slots_used batch_calls))
+
+  module _ (size : ℕ) (sized : MatchOption held ⊥ (λ b. b.size ≡ size)) (slots : ℕ) (call : Spelled) (counted : slots ≡ slots_of call) where
+    -- a call fits behind these calls where its slots are left
+    pub fits_held : slots ≤ slots_left batch → slots_of call ≤ slots_left (record { size = size; calls = open_calls held })
+    fits_held fits = omega (arith, batch_left size sized)
+
+    pub full_held : slots_left batch < slots → slots_left (record { size = size; calls = open_calls held }) < slots_of call
+    full_held full = omega (arith, batch_left size sized)
+
+    -- and else the batch ends before it
+    pub cut_before-held : slots_left batch < slots → batch_unless_empty batch.calls ≡ cut_before size (open_calls held) call
+    cut_before-held full = ap batch_unless_empty batch_calls ∙ sym (cut_before-full size (open_calls held) call (full_held full))
 
 -- the class of a call as it is issued
 pub class-issued_at : (tracked : Tracked) (call : Call) (memory : List Segment) (slots : ℕ) → (issued_at tracked call memory slots).class ≡ class_of tracked call memory slots

@@ -23,7 +23,8 @@ use gl_words::Call;
 use std::alloc::AllocError as NoMemory;
 use std::thread::Threads;
 
-/// Submits the open batch unless it is empty, and leaves an empty one there. Tells how many were submitted: 0 or 1.
+/// Submits the open batch unless it is empty, and leaves an empty one there. Tells how many were
+/// submitted: 0 or 1.
 pub fn submit_open<T: Threads + Sync, D: Driver, R: Rail<D>>(
     rt: &T,
     rail: &mut R,
@@ -58,8 +59,8 @@ pub fn submit_open<T: Threads + Sync, D: Driver, R: Rail<D>>(
     1
 }
 
-/// Makes room in the open batch for a call of so many slots: submits it where the call doesn't fit, and else
-/// touches nothing. Tells how many were submitted: 0 or 1.
+/// Makes room in the open batch for a call of so many slots: submits it where the call doesn't fit,
+/// and else touches nothing. Tells how many were submitted: 0 or 1.
 fn make_room<T: Threads + Sync, D: Driver, R: Rail<D>>(
     rt: &T,
     rail: &mut R,
@@ -82,7 +83,8 @@ fn make_room<T: Threads + Sync, D: Driver, R: Rail<D>>(
     ensures count { (call : Spelled) → slots ≡ slots_of call
         → result ≡ length (cut_before (R.size rail.old) (open_calls open_batch.old) call) }
     ensures few { result ≤ 1 }
-    ensures stands { (st2 : D) → RunsFrom (R.stands rail.new) D.steps (open_calls open_batch.new) st2
+    ensures stands { (st2 : D)
+        → RunsFrom (R.stands rail.new) D.steps (open_calls open_batch.new) st2
         → RunsFrom (R.stands rail.old) D.steps (open_calls open_batch.old) st2 }
     ensures ready { IsReady (R.home rail.new) (R.size rail.new) open_batch.new }
     ensures rail_size { R.size rail.new ≡ R.size rail.old }

@@ -12,8 +12,8 @@ use std::alloc::{AllocError, AllocError as NoMemory};
 use std::marker::Model;
 use std::thread::Threads;
 
-/// A recorder that is refused memory where it met as many calls as it has room for, and counts what it was asked: the gets
-/// of tracked state too, which a recorder doesn't keep.
+/// A recorder that is refused memory where it met as many calls as it has room for. It counts what it
+/// was asked: the gets of tracked state too, which a recorder doesn't keep.
 #[derive(Drop)]
 pub(super) struct Limited {
     pub(super) recorder: Recorder,

@@ -7,8 +7,8 @@ use std::alloc::{AllocError as NoMemory, Global};
 use std::test::Fail;
 use std::thread::Threads;
 
-/// Issues calls to a front over a rail that counts, and finishes. Gives whether it finished, and how often the driver was
-/// taken.
+/// Issues calls to a front over a rail that counts, and finishes. Gives whether it finished, and how
+/// often the driver was taken.
 fn takes_to_finish<T: Threads + Sync>(
     rt: &T,
     alloc: Global,
@@ -137,8 +137,8 @@ fn calls_that_wait(name: u32) -> [Call; 18] {
     ]
 }
 
-// Each name that a get may know, and those between them: no clause says that a call isn't refused where the driver has
-// memory.
+// Each name that a get may know, and those between them: no clause says that a call isn't refused
+// where the driver has memory.
 #[test]
 fn no_call_that_waits_is_refused_over_a_driver_that_has_memory(
     rt: HostRuntime,

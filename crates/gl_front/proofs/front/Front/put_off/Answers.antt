@@ -26,18 +26,6 @@ put_off-sent-requires-clause-fits g c κs live =
     let short = captured-short c.self.inside.shadow c.args.call.now c.self.inside.memory (g.R.RailState.size c.self.inside.rail) c.args.pieces.now are class in
     omega (arith, heading.slots, short)
 
-pub invariant_of-self : goal.invariant_of-self
-invariant_of-self g c =
-    let class = rw (← c.self.view_is) at c.requires.class in
-    let are = rw (← c.self.view_is) at c.requires.pieces in
-    let carries = carries_put_off g.R.RailState.stands g.D.Machine.tracked g.D.Machine.steps g.D.Machine.laws c.self.inside.rail c.put_off-sent.new.rail (open_calls c.self.inside.batch) (open_calls c.self.inside.batch) (open_calls c.put_off-sent.new.open_batch) c.self.inside.memory c.self.inside.shadow c.args.call.now
-    (cut c.args.pieces.now (memory_of c.self.inside.memory)) c.requires.in_range c.bytes.ensures.small (AreBytes-cut c.args.pieces.now c.self.inside.memory c.bytes.ensures.small)
-    (captured-agrees c.self.inside.shadow c.args.call.now c.self.inside.memory _ c.args.pieces.now are class)
-    (is_answering-defer c.self.inside.shadow c.args.call.now (memory_of c.self.inside.memory) _ class) refl c.self.invariant.1 c.put_off-sent.ensures.stands in (
-      c.put_off-sent.ensures.ready,
-      knows_on g.R.RailState.stands g.D.Machine.tracked g.D.Machine.steps g.D.Machine.laws c.self.inside.rail c.put_off-sent.new.rail (open_calls c.self.inside.batch) (open_calls c.put_off-sent.new.open_batch) c.self.inside.memory c.self.inside.shadow c.note.new.self c.args.call.now Nothing c.requires.in_range c.bytes.ensures.small c.self.invariant.1 carries c.note.ensures,
-    )
-
 pub returns-clause-taken : goal.returns-clause-taken
 unfolding memory_after
 returns-clause-taken g c =
@@ -63,3 +51,15 @@ returns-clause-taken g c =
       mark = refl;
       size = c.put_off-sent.ensures.rail_size;
     })
+
+pub invariant_of-self : goal.invariant_of-self
+invariant_of-self g c =
+    let class = rw (← c.self.view_is) at c.requires.class in
+    let are = rw (← c.self.view_is) at c.requires.pieces in
+    let carries = carries_put_off g.R.RailState.stands g.D.Machine.tracked g.D.Machine.steps g.D.Machine.laws c.self.inside.rail c.put_off-sent.new.rail (open_calls c.self.inside.batch) (open_calls c.self.inside.batch) (open_calls c.put_off-sent.new.open_batch) c.self.inside.memory c.self.inside.shadow c.args.call.now
+    (cut c.args.pieces.now (memory_of c.self.inside.memory)) c.requires.in_range c.bytes.ensures.small (AreBytes-cut c.args.pieces.now c.self.inside.memory c.bytes.ensures.small)
+    (captured-agrees c.self.inside.shadow c.args.call.now c.self.inside.memory _ c.args.pieces.now are class)
+    (is_answering-defer c.self.inside.shadow c.args.call.now (memory_of c.self.inside.memory) _ class) refl c.self.invariant.1 c.put_off-sent.ensures.stands in (
+      c.put_off-sent.ensures.ready,
+      knows_on g.R.RailState.stands g.D.Machine.tracked g.D.Machine.steps g.D.Machine.laws c.self.inside.rail c.put_off-sent.new.rail (open_calls c.self.inside.batch) (open_calls c.put_off-sent.new.open_batch) c.self.inside.memory c.self.inside.shadow c.note.new.self c.args.call.now Nothing c.requires.in_range c.bytes.ensures.small c.self.invariant.1 carries c.note.ensures,
+    )
