@@ -12,6 +12,7 @@ use crate::reply::Reply;
 use gl_memory::Memory;
 use gl_words::Call;
 use std::alloc::AllocError as NoMemory;
+use std::sync::Wait;
 use std::thread::Threads;
 
 /// A driver as its states, and what a call may do to them; own.
@@ -32,6 +33,22 @@ pub trait Driver: Machine {
     fn call<T: Threads + Sync, M: Memory>(
         &mut self,
         rt: &T,
+        call: &Call,
+        memory: &M,
+    ) -> Result<Reply, NoMemory>
+        requires shared { IsSync T.row }
+        ensures ok { IfOk result (λ reply.
+            Self.steps self.old call.now (M.segments memory.now) self.new (replied reply)) }
+        ensures err { OnErr result (self.new ≡ self.old) };
+}
+
+/// A driver whose calls may wait, with the states and the relation of [`Machine`].
+pub trait WaitDriver: Machine {
+    /// Carries a call out on a memory. Want of memory leaves the driver as it was.
+    fn call<T: Threads + Sync, W: Wait, M: Memory>(
+        &mut self,
+        rt: &T,
+        wait: &W,
         call: &Call,
         memory: &M,
     ) -> Result<Reply, NoMemory>

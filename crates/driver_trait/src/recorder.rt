@@ -7,13 +7,14 @@ ghost use Rattle.driver_trait.specs.Reply.{replied};
 ghost use Rattle.gl_tracked.specs.Tracked.{first_tracked};
 ghost use Rattle.driver_trait.specs.Recording.{recorder_is_driver};
 
-use crate::driver::{Driver, Machine};
+use crate::driver::{Driver, Machine, WaitDriver};
 use crate::reply::Reply;
 use gl_memory::Memory;
 use gl_tracked::{Finding, Tracked};
 use gl_words::Call;
 use std::alloc::{AllocError as NoMemory, Global};
 use std::marker::Model;
+use std::sync::Wait;
 use std::thread::Threads;
 
 /// Tracked state, and the calls that were met, those that ask for tracked state aside; own.
@@ -48,6 +49,22 @@ impl Recorder {
     {
         self.calls.as_slice()
     }
+
+    /// Keeps a call, or answers it.
+    fn meet<M: Memory>(&mut self, call: &Call, memory: &M) -> Result<Reply, NoMemory>
+        ensures ok { IfOk result (λ reply. RecorderSteps self.old call.now
+            (M.segments memory.now) self.new (replied reply)) }
+        ensures err { OnErr result (self.new ≡ self.old) }
+    {
+        match self.tracked.finding(call) {
+            Finding::Number(number) => Ok(Reply::One(number)),
+            Finding::Fault(fault) => {
+                self.calls.push(*call)?;
+                self.tracked.note(call, memory, fault);
+                Ok(Reply::Nothing)
+            }
+        }
+    }
 }
 
 impl Machine for Recorder {
@@ -65,13 +82,18 @@ impl Driver for Recorder {
         call: &Call,
         memory: &M,
     ) -> Result<Reply, NoMemory> {
-        match self.tracked.finding(call) {
-            Finding::Number(number) => Ok(Reply::One(number)),
-            Finding::Fault(fault) => {
-                self.calls.push(*call)?;
-                self.tracked.note(call, memory, fault);
-                Ok(Reply::Nothing)
-            }
-        }
+        self.meet(call, memory)
+    }
+}
+
+impl WaitDriver for Recorder {
+    fn call<T: Threads + Sync, W: Wait, M: Memory>(
+        &mut self,
+        _rt: &T,
+        _wait: &W,
+        call: &Call,
+        memory: &M,
+    ) -> Result<Reply, NoMemory> {
+        self.meet(call, memory)
     }
 }

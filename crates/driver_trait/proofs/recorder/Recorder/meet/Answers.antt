@@ -1,7 +1,7 @@
 use Rattle.std.proofs.Common.{rules, sym, SFits, w64}
 use Rattle.std.proofs.lemmas.Int.{to_z-of_z}
 use Rattle.driver_trait.proofs.Recordings.{answered_by, unanswered_by, recorded_by}
-use Rattle.driver_trait.proofs.recorder.RecorderDriver.call.Goals as goal
+use Rattle.driver_trait.proofs.recorder.Recorder.meet.Goals as goal
 
 pub returns-in-Number-clause-ok : goal.returns-in-Number-clause-ok
 returns-in-Number-clause-ok g c =
