@@ -1,5 +1,6 @@
 pub mod Running
 pub mod Runs
+pub mod BatchRuns
 pub mod Journals
 pub mod Keeping
 pub mod Giving

@@ -1,5 +1,6 @@
 -- Where a driver is led by the calls of a batch, each on the memory that was captured for it; own.
-use Rattle.std.specs.Prelude.{◌≡◌, Bool, true, false, List, [], ◌∷◌, ◌++◌, Option, Some}
+use Rattle.std.specs.Prelude.{◌≡◌, ℕ, zero, suc, Bool, true, false, List, [], ◌∷◌, ◌++◌, Option, Some}
+use Rattle.std.specs.List.{slice_get}
 use Rattle.batch_pack.specs.Spelling.{Spelled}
 use Rattle.driver_trait.specs.Driver.{Steps}
 use Rattle.driver_trait.specs.Reply.{Replied}
@@ -27,3 +28,9 @@ pub record StopsInside {S : Type 0} (steps : Steps S) (start : S) (calls : List 
 abbrev pub StopsOnce : {S : Type 0} → Steps S → Bool → Option S → List Spelled → Bool → Option S → Type 0
 StopsOnce {S} steps failed before calls fails after =
     failed ≡ false → fails ≡ true → (start here : S) → before ≡ Some start → after ≡ Some here → StopsInside steps start calls here
+
+-- a state leads to another by the first so many batches of a list, one after the other; own
+abbrev pub RunFirst : {S : Type 0} → Steps S → S → List (List Spelled) → ℕ → S → Type 0
+RunFirst steps st batches zero st2 = st2 ≡ st
+RunFirst {S} steps st batches (suc count) st2 =
+    (mid : S) × (batch : List Spelled) × RunFirst steps st batches count mid × (slice_get batches count ≡ Some batch) × Run steps mid batch st2

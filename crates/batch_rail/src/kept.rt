@@ -1,22 +1,21 @@
-//! A rail without threads that keeps what was submitted to it, and its maker.
+//! A rail without threads that keeps what was submitted to it. Its makers stand in `kept_maker.rt`.
 
-ghost use Rattle.std.specs.Prelude.{◌≡◌, ◌≢◌, ◌↔◌, ℕ, ◌+◌, ◌-◌, ◌^◌, ◌<◌, ◌≤◌, ◌⊎◌, [], ◌∷◌, Option, Some, None, IsSome, IsNone, IsErr, true, IfOk, IfErr, OnErr, OnOk};
+ghost use Rattle.std.specs.Prelude.{◌≡◌, ◌≢◌, ◌+◌, ◌-◌, ◌^◌, ◌<◌, ◌≤◌, ◌⊎◌, [], ◌∷◌, IsSome, IsNone, IsErr, true, ◌↔◌, IfOk, IfErr, OnErr, OnOk, None};
 ghost use Rattle.std.specs.Thread.{IsSync};
 ghost use Rattle.batch_pack.specs.Batch.{IsBatchSize, empty_batch};
 ghost use Rattle.batch_rail.specs.Run.{RunsFrom, StopsOnce};
 ghost use Rattle.batch_rail.specs.Rail.{HasDriver, Gains, StandsForNoMore};
-ghost use Rattle.batch_rail.specs.Maker.{IsRingLength, IsLaunched, IsUnused};
-ghost use Rattle.batch_rail.specs.Journal.{SameOthers, empty_by, journal_at, new_journal, room_by, told_by, told_with};
+ghost use Rattle.batch_rail.specs.Maker.{IsLaunched, IsUnused};
+ghost use Rattle.batch_rail.specs.Journal.{empty_by, room_by, told_by, told_with};
 
-use crate::batches::Batches;
-use crate::inline::{InlineMaker, InlineRail};
+use crate::inline::InlineRail;
 use crate::journal::Journal;
-use crate::maker::{RailKind, RailMaker};
-use crate::rail::{Rail, RailState};
+use crate::rail::{Rail, RailState, WaitRail};
 use batch_pack::Batch;
-use driver_trait::{Driver, Machine};
-use std::alloc::{AllocError, AllocError as NoMemory, Global};
+use driver_trait::{Calls, Driver, Machine, Plainly, WaitDriver, Waiting};
+use std::alloc::{AllocError, AllocError as NoMemory};
 use std::marker::Model;
+use std::sync::Wait;
 use std::thread::Threads;
 
 /// How many of the last batches of a context may be empty where a rail is launched: a rail takes 2^62 batches, and
@@ -63,6 +62,112 @@ impl<D: Machine> RailState<D> for JournalRail<D> {
     ghost journal = { λ r. told_by r.journal };
 }
 
+impl<D: Machine> JournalRail<D> {
+    /// A rail over a driver, with batches of so many slots, which has the journal. Refused where more of its last batches
+    /// are empty than a rail may find.
+    pub(crate) fn over(
+        journal: &mut Option<Journal>,
+        driver: D,
+        slots: u32,
+    ) -> Result<JournalRail<D>, (D, NoMemory)>
+        requires slots { IsBatchSize slots }
+        ensures ok { IfOk result (λ rail. IsLaunched D.tracked
+            (HasDriver rail.failed rail.driver) (rail.failed ≡ true) (IsSome rail.driver)
+            rail.slots (D.tracked driver)) }
+        ensures unused { IfOk result (λ rail. IsUnused (HasDriver rail.failed rail.driver)
+            rail.slots rail.sent driver slots) }
+        ensures refused { IsErr result ↔ (2 ^ 63 < empty_by journal.old) }
+        ensures told { IfOk result (λ rail. rail.journal ≡ journal.old) }
+        ensures out { OnOk result (journal.new ≡ None) }
+        ensures err { IfErr result (λ refusal. refusal.0 ≡ driver) }
+        ensures refused_told { OnErr result (journal.new ≡ journal.old) }
+    {
+        if empty_last(journal) > MOST_EMPTY {
+            return Err((driver, AllocError));
+        }
+        Ok(JournalRail {
+            rail: InlineRail::over(driver, slots),
+            journal: journal.take(),
+        })
+    }
+
+    /// Gives the driver, unless a batch failed, and the journal back.
+    pub(crate) fn end(self, journal: &mut Option<Journal>) -> Result<D, NoMemory>
+        requires home { IsSome self.driver }
+        ensures ok { IfOk result (λ driver. HasDriver self.failed self.driver driver) }
+        ensures err { OnErr result (self.failed ≡ true) }
+        ensures told { journal.new ≡ self.journal }
+    {
+        let mut rail = self.rail;
+        *journal = self.journal;
+        rail.hand_out()
+    }
+
+    /// Keeps a batch, carries it out, and gives it back empty.
+    fn keep_and_carry_out<H: Calls<W, D>, W, T: Threads + Sync>(
+        &mut self,
+        rt: &T,
+        wait: &W,
+        full: Batch,
+    ) -> Batch
+        requires home { IsSome self.old.driver }
+        requires size { full.size ≡ self.old.slots }
+        requires room { self.old.sent < 2 ^ 62 }
+        ensures empty { result ≡ empty_batch full.size }
+        ensures stands { (st2 : D) → HasDriver self.new.failed self.new.driver st2
+            → RunsFrom (HasDriver self.old.failed self.old.driver) D.steps full.calls st2 }
+        ensures failed { self.new.failed ≡ true → (self.old.failed ≡ true) ⊎ (full.calls ≢ []) }
+        ensures home { IsSome self.new.driver }
+        ensures size { self.new.slots ≡ self.old.slots }
+        ensures sent { self.new.sent ≡ self.old.sent + 1 }
+        ensures journal { Gains (told_by self.old.journal) (told_by self.new.journal)
+            (full.calls ∷ []) }
+        // the batch is told behind the others, while all of them have room
+        ensures kept { told_by self.new.journal
+            ≡ told_with (room_by self.old.journal) (told_by self.old.journal) full.calls }
+        ensures same_room { room_by self.new.journal ≡ room_by self.old.journal }
+        ensures few_empty { empty_by self.new.journal ≤ empty_by self.old.journal + 1 }
+        // after a refusal no call is carried out: neither in this batch nor in a later one
+        ensures idle { self.old.failed ≡ true
+            → (self.new.failed ≡ true) × (self.new.driver ≡ self.old.driver) }
+        ensures stopped { StopsOnce D.steps self.old.failed self.old.driver
+            full.calls self.new.failed self.new.driver }
+    {
+        keep(&mut self.journal, &full);
+        self.rail.carry_out::<H, W, T>(rt, wait, full)
+    }
+
+    /// Takes the driver, unless a batch failed.
+    fn hand_out(&mut self) -> Result<D, NoMemory>
+        requires home { IsSome self.old.driver }
+        ensures ok { IfOk result
+            (λ driver. HasDriver self.old.failed self.old.driver driver × IsNone self.new.driver) }
+        ensures err { OnErr result ((self.old.failed ≡ true) × (self.new.failed ≡ true)
+            × IsSome self.new.driver) }
+        ensures stands { OnErr result
+            (StandsForNoMore (HasDriver self.old.failed self.old.driver)
+            (HasDriver self.new.failed self.new.driver)) }
+        ensures size { self.new.slots ≡ self.old.slots }
+        ensures sent { self.new.sent ≡ self.old.sent }
+        ensures journal { self.new.journal ≡ self.old.journal }
+    {
+        self.rail.hand_out()
+    }
+
+    /// Has the driver back.
+    fn take_back(&mut self, driver: D)
+        requires taken { IsNone self.old.driver }
+        ensures stands { (st : D) → HasDriver self.new.failed self.new.driver st → st ≡ driver }
+        ensures sound { ¬ (self.new.failed ≡ true) }
+        ensures home { IsSome self.new.driver }
+        ensures size { self.new.slots ≡ self.old.slots }
+        ensures sent { self.new.sent ≡ self.old.sent }
+        ensures journal { self.new.journal ≡ self.old.journal }
+    {
+        self.rail.take_back(driver);
+    }
+}
+
 impl<D: Driver> Rail<D> for JournalRail<D> {
     fn submit<T: Threads + Sync>(&mut self, rt: &T, full: Batch) -> Batch
         requires shared { IsSync T.row }
@@ -89,8 +194,7 @@ impl<D: Driver> Rail<D> for JournalRail<D> {
         ensures stopped { StopsOnce D.steps self.old.failed self.old.driver
             full.calls self.new.failed self.new.driver }
     {
-        keep(&mut self.journal, &full);
-        self.rail.submit(rt, full)
+        self.keep_and_carry_out::<Plainly, (), T>(rt, &(), full)
     }
 
     fn take(&mut self) -> Result<D, NoMemory>
@@ -106,7 +210,7 @@ impl<D: Driver> Rail<D> for JournalRail<D> {
         ensures sent { self.new.sent ≡ self.old.sent }
         ensures journal { self.new.journal ≡ self.old.journal }
     {
-        self.rail.take()
+        self.hand_out()
     }
 
     fn put(&mut self, driver: D)
@@ -118,15 +222,83 @@ impl<D: Driver> Rail<D> for JournalRail<D> {
         ensures sent { self.new.sent ≡ self.old.sent }
         ensures journal { self.new.journal ≡ self.old.journal }
     {
-        self.rail.put(driver);
+        self.take_back(driver);
     }
 
     fn slots(&self) -> u32 {
-        self.rail.slots()
+        self.rail.slots
     }
 
     fn sent(&self) -> u64 {
-        self.rail.sent()
+        self.rail.sent
+    }
+}
+
+impl<D: WaitDriver> WaitRail<D> for JournalRail<D> {
+    fn submit<T: Threads + Sync, W: Wait>(&mut self, rt: &T, wait: &W, full: Batch) -> Batch
+        requires shared { IsSync T.row }
+        requires home { IsSome self.old.driver }
+        requires size { full.size ≡ self.old.slots }
+        requires room { self.old.sent < 2 ^ 62 }
+        ensures empty { result ≡ empty_batch full.size }
+        ensures stands { (st2 : D) → HasDriver self.new.failed self.new.driver st2
+            → RunsFrom (HasDriver self.old.failed self.old.driver) D.steps full.calls st2 }
+        ensures failed { self.new.failed ≡ true → (self.old.failed ≡ true) ⊎ (full.calls ≢ []) }
+        ensures home { IsSome self.new.driver }
+        ensures size { self.new.slots ≡ self.old.slots }
+        ensures sent { self.new.sent ≡ self.old.sent + 1 }
+        ensures journal { Gains (told_by self.old.journal) (told_by self.new.journal)
+            (full.calls ∷ []) }
+        // the batch is told behind the others, while all of them have room
+        ensures kept { told_by self.new.journal
+            ≡ told_with (room_by self.old.journal) (told_by self.old.journal) full.calls }
+        ensures same_room { room_by self.new.journal ≡ room_by self.old.journal }
+        ensures few_empty { empty_by self.new.journal ≤ empty_by self.old.journal + 1 }
+        // after a refusal no call is carried out: neither in this batch nor in a later one
+        ensures idle { self.old.failed ≡ true
+            → (self.new.failed ≡ true) × (self.new.driver ≡ self.old.driver) }
+        ensures stopped { StopsOnce D.steps self.old.failed self.old.driver
+            full.calls self.new.failed self.new.driver }
+    {
+        self.keep_and_carry_out::<Waiting, W, T>(rt, wait, full)
+    }
+
+    fn take<T: Threads + Sync, W: Wait>(&mut self, _rt: &T, _wait: &W) -> Result<D, NoMemory>
+        requires shared { IsSync T.row }
+        requires home { IsSome self.old.driver }
+        ensures ok { IfOk result
+            (λ driver. HasDriver self.old.failed self.old.driver driver × IsNone self.new.driver) }
+        ensures err { OnErr result ((self.old.failed ≡ true) × (self.new.failed ≡ true)
+            × IsSome self.new.driver) }
+        ensures stands { OnErr result
+            (StandsForNoMore (HasDriver self.old.failed self.old.driver)
+            (HasDriver self.new.failed self.new.driver)) }
+        ensures size { self.new.slots ≡ self.old.slots }
+        ensures sent { self.new.sent ≡ self.old.sent }
+        ensures journal { self.new.journal ≡ self.old.journal }
+    {
+        self.hand_out()
+    }
+
+    fn put<T: Threads + Sync, W: Wait>(&mut self, _rt: &T, _wait: &W, driver: D)
+        requires shared { IsSync T.row }
+        requires taken { IsNone self.old.driver }
+        ensures stands { (st : D) → HasDriver self.new.failed self.new.driver st → st ≡ driver }
+        ensures sound { ¬ (self.new.failed ≡ true) }
+        ensures home { IsSome self.new.driver }
+        ensures size { self.new.slots ≡ self.old.slots }
+        ensures sent { self.new.sent ≡ self.old.sent }
+        ensures journal { self.new.journal ≡ self.old.journal }
+    {
+        self.take_back(driver);
+    }
+
+    fn slots(&self) -> u32 {
+        self.rail.slots
+    }
+
+    fn sent(&self) -> u64 {
+        self.rail.sent
     }
 }
 
@@ -140,119 +312,6 @@ fn keep(journal: &mut Option<Journal>, batch: &Batch)
 {
     if let Some(journal) = journal {
         journal.keep(batch);
-    }
-}
-
-/// Makes rails without threads, and tells for each context which batches were submitted, while they have no more
-/// slots than it reserved; own. Contracts see its kind and the journals of the contexts that aren't out.
-#[derive(Drop)]
-pub struct JournalMaker {
-    kind: RailKind,
-    journals: [Option<Journal>; 4],
-}
-
-impl Model for JournalMaker {
-    ghost use Rattle.batch_rail.specs.Journal.{MakerView};
-
-    ghost Value = { MakerView };
-
-    ghost view = { λ m. record { kind = m.kind; journals = m.journals } };
-}
-
-impl JournalMaker {
-    /// A maker that says that it is of this kind, with room for so many slots of each context.
-    pub fn new(alloc: Global, kind: RailKind, room: u64) -> Result<JournalMaker, NoMemory>
-        ensures kind { IfOk result (λ maker. maker.kind ≡ kind) }
-        ensures journals { IfOk result (λ maker. (context : ℕ) → context < 4
-            → journal_at maker.journals context ≡ Some (new_journal room)) }
-    {
-        Ok(JournalMaker {
-            kind,
-            journals: [
-                Some(Journal::new(alloc, room)?),
-                Some(Journal::new(alloc, room)?),
-                Some(Journal::new(alloc, room)?),
-                Some(Journal::new(alloc, room)?),
-            ],
-        })
-    }
-
-    /// The batches that were submitted to a context, in order. None where a rail of the context is out, and once they
-    /// have more slots than there is room for.
-    pub fn journal(&self, context: u32) -> Option<Batches<'_>>
-        requires context { context < 4 }
-        ensures { result ≡ told_by (journal_at self.now.journals context) }
-    {
-        match &self.journals[context as usize] {
-            Some(journal) => journal.batches(),
-            None => None,
-        }
-    }
-}
-
-impl<D: Driver> RailMaker<D> for JournalMaker {
-    type Made = JournalRail<D>;
-
-    ghost kind_of = { λ maker. maker.kind };
-
-    ghost journal = { λ maker context. told_by (journal_at maker.journals context) };
-
-    fn kind(&self) -> RailKind {
-        self.kind
-    }
-
-    fn launch(
-        &mut self,
-        alloc: Global,
-        context: u32,
-        driver: D,
-        slots: u32,
-        ring: u32,
-    ) -> Result<JournalRail<D>, (D, NoMemory)>
-        requires context { context < 4 }
-        requires slots { IsBatchSize slots }
-        requires ring { IsRingLength ring }
-        ensures ok { IfOk result (λ rail. IsLaunched D.tracked
-            (HasDriver rail.failed rail.driver) (rail.failed ≡ true) (IsSome rail.driver)
-            rail.slots (D.tracked driver)) }
-        ensures unused { IfOk result (λ rail. IsUnused (HasDriver rail.failed rail.driver)
-            rail.slots rail.sent driver slots) }
-        // refused exactly where more than 2^63 of the context's last batches have no slots
-        ensures refused { IsErr result
-            ↔ (2 ^ 63 < empty_by (journal_at self.old.journals context)) }
-        ensures told { IfOk result (λ rail. rail.journal ≡ journal_at self.old.journals context) }
-        // a context isn't told while its rail is out
-        ensures out { OnOk result (journal_at self.new.journals context ≡ None) }
-        ensures err { IfErr result (λ refusal. refusal.0 ≡ driver) }
-        ensures refused_told { OnErr result (journal_at self.new.journals context
-            ≡ journal_at self.old.journals context) }
-        ensures others { SameOthers self.old.journals self.new.journals context }
-        ensures kind { self.new.kind ≡ self.old.kind }
-    {
-        if empty_last(&self.journals[context as usize]) > MOST_EMPTY {
-            return Err((driver, AllocError));
-        }
-        let mut plain = InlineMaker::new();
-        let rail = plain.launch(alloc, context, driver, slots, ring)?;
-        Ok(JournalRail {
-            rail,
-            journal: self.journals[context as usize].take(),
-        })
-    }
-
-    fn close(&mut self, context: u32, rail: JournalRail<D>) -> Result<D, NoMemory>
-        requires context { context < 4 }
-        requires home { IsSome rail.driver }
-        ensures ok { IfOk result (λ driver. HasDriver rail.failed rail.driver driver) }
-        ensures err { OnErr result (rail.failed ≡ true) }
-        ensures told { journal_at self.new.journals context ≡ rail.journal }
-        ensures others { SameOthers self.old.journals self.new.journals context }
-        ensures kind { self.new.kind ≡ self.old.kind }
-    {
-        let JournalRail { rail, journal } = rail;
-        self.journals[context as usize] = journal;
-        let mut plain = InlineMaker::new();
-        plain.close(context, rail)
     }
 }
 

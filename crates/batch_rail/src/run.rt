@@ -4,13 +4,15 @@ ghost use Rattle.std.specs.Prelude.{◌≡◌, ◌≢◌, [], IsErr, OnErr, OnOk
 ghost use Rattle.batch_rail.specs.Run.{Run, StopsInside};
 
 use batch_pack::Batch;
-use driver_trait::Driver;
+use driver_trait::{Calls, Machine};
 use std::alloc::AllocError as NoMemory;
 use std::thread::Threads;
 
-/// Carries out the calls of a batch in order, up to the first that is refused memory.
-pub fn run_batch<T: Threads + Sync, D: Driver>(
+/// Carries out the calls of a batch in order, up to the first that is refused memory. The driver is called as `H` calls
+/// it, without waiting or with leave to wait.
+pub fn run_batch<H: Calls<W, D>, W, T: Threads + Sync, D: Machine>(
     rt: &T,
+    wait: &W,
     driver: &mut D,
     batch: &Batch,
 ) -> Result<(), NoMemory>
@@ -20,7 +22,7 @@ pub fn run_batch<T: Threads + Sync, D: Driver>(
 {
     let mut reader = batch.reader();
     while let Some(packed) = reader.next() {
-        let _reply = driver.call(rt, &packed.call, &packed.memory)?;
+        let _reply = H::call(driver, rt, wait, &packed.call, &packed.memory)?;
     }
     Ok(())
 }

@@ -15,13 +15,14 @@ ghost use Rattle.soft_driver.specs.Own.{first_own, frame_after, own_reply, own_s
 ghost use Rattle.soft_driver.specs.Soft.{own_tracked, OwnSteps, soft_is_driver};
 
 use crate::frame::Frame;
-use driver_trait::{Driver, Machine, Reply};
+use driver_trait::{Driver, Machine, Reply, WaitDriver};
 use gl_memory::Memory;
 use gl_state::{EventReply, Plan, Private};
 use gl_tracked::Tracked;
 use gl_words::Call;
 use std::alloc::{AllocError as NoMemory, Global};
 use std::marker::Model;
+use std::sync::Wait;
 use std::thread::Threads;
 
 /// The bit of the colour buffer (section 4.2.3).
@@ -144,26 +145,10 @@ impl Soft {
         draw(plan, &self.state, &mut self.frame, call);
         self.state.finish(plan, call, memory, &EventReply);
     }
-}
 
-impl Machine for Soft {
-    ghost tracked = { own_tracked };
-
-    ghost steps = { OwnSteps };
-
-    ghost laws = { soft_is_driver };
-}
-
-impl Driver for Soft {
-    /// Carries a call out on a memory, and gives its reply. Want of memory leaves the driver as it was, and only a reply
-    /// of a list takes any. What calls do is OpenGL ES's (chapters 2 to 6), that memory may be wanted own.
+    /// Carries a call out on a memory, and gives its reply. Want of memory leaves the driver as it was.
     #[tactic(auto, unfolding(crate::specs::Own::own_step))]
-    fn call<T: Threads + Sync, M: Memory>(
-        &mut self,
-        _rt: &T,
-        call: &Call,
-        memory: &M,
-    ) -> Result<Reply, NoMemory>
+    fn carry_out<M: Memory>(&mut self, call: &Call, memory: &M) -> Result<Reply, NoMemory>
         ensures ok { IfOk result
             (λ reply. OwnSteps self.old call.now (M.segments memory.now) self.new (replied reply)) }
         ensures err { OnErr result (self.new ≡ self.old) }
@@ -180,6 +165,56 @@ impl Driver for Soft {
             }
             Err(refused) => Err(refused),
         }
+    }
+}
+
+impl Machine for Soft {
+    ghost tracked = { own_tracked };
+
+    ghost steps = { OwnSteps };
+
+    ghost laws = { soft_is_driver };
+}
+
+impl Driver for Soft {
+    /// Carries a call out on a memory, and gives its reply. Want of memory leaves the driver as it was, and only a reply
+    /// of a list takes any. What calls do is OpenGL ES's (chapters 2 to 6), that memory may be wanted own.
+    fn call<T: Threads + Sync, M: Memory>(
+        &mut self,
+        _rt: &T,
+        call: &Call,
+        memory: &M,
+    ) -> Result<Reply, NoMemory>
+        ensures ok { IfOk result
+            (λ reply. OwnSteps self.old call.now (M.segments memory.now) self.new (replied reply)) }
+        ensures err { OnErr result (self.new ≡ self.old) }
+        ensures memory { IsErr result
+            → replies_list (fault_of self.old.state.tracked call.now) call.now ≡ true }
+        // A call that is put off is refused nothing, and no memory is asked for it.
+        ensures unanswered { is_answering call.now ≡ false → IsOk result }
+    {
+        self.carry_out(call, memory)
+    }
+}
+
+impl WaitDriver for Soft {
+    /// The same call, which waits for nobody.
+    fn call<T: Threads + Sync, W: Wait, M: Memory>(
+        &mut self,
+        _rt: &T,
+        _wait: &W,
+        call: &Call,
+        memory: &M,
+    ) -> Result<Reply, NoMemory>
+        ensures ok { IfOk result
+            (λ reply. OwnSteps self.old call.now (M.segments memory.now) self.new (replied reply)) }
+        ensures err { OnErr result (self.new ≡ self.old) }
+        ensures memory { IsErr result
+            → replies_list (fault_of self.old.state.tracked call.now) call.now ≡ true }
+        // A call that is put off is refused nothing, and no memory is asked for it.
+        ensures unanswered { is_answering call.now ≡ false → IsOk result }
+    {
+        self.carry_out(call, memory)
     }
 }
 

@@ -8,7 +8,7 @@ use Rattle.gl_state.specs.Step.{fault_in}
 use Rattle.soft_driver.specs.Own.{Own, replies_list}
 use Rattle.soft_driver.proofs.Replies.{replies_list-answered}
 use Rattle.soft_driver.proofs.Steps.{own_replied}
-use Rattle.soft_driver.proofs.soft.SoftDriver.call.Goals as goal
+use Rattle.soft_driver.proofs.soft.Soft.carry_out.Goals as goal
 
 pub returns-in-Err-clause-memory : goal.returns-in-Err-clause-memory
 returns-in-Err-clause-memory g c refused =
