@@ -1,11 +1,14 @@
-//! Each public call once, over the driver that keeps the calls it met.
+//! Each public call once, over the driver that keeps the calls it met. Those of the form that may wait are in
+//! `rail/waits.rt`.
 
 ghost use Rattle.std.specs.Prelude.{◌≡◌, ◌<◌, IfOk};
 ghost use Rattle.gl_tracked.specs.Tracked.{first_tracked};
 ghost use Rattle.batch_rail.specs.Maker.{IsLaunched};
 
+mod waits;
+
 use batch_pack::Batch;
-use batch_rail::*;
+use batch_rail::{InlineMaker, JournalMaker, Rail, RailKind, RailMaker};
 use driver_trait::{Driver, Recorder};
 use gl_memory::{ClientMemory, Pieces};
 use gl_words::Call;

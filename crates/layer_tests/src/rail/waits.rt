@@ -1,0 +1,148 @@
+//! The rails without threads in the form that may wait, by the parts of their makers.
+
+ghost use Rattle.std.specs.Prelude.{◌≡◌, [], ◌∷◌};
+ghost use Rattle.driver_trait.specs.Recorder.{RecorderSteps};
+ghost use Rattle.batch_rail.specs.Run.{Run};
+
+use super::tells;
+use batch_pack::Batch;
+use batch_rail::{InlineMaker, JournalMaker, RailKind, RailUser, WaitMaker, WaitPart, WaitRail};
+use driver_trait::Recorder;
+use gl_memory::{ClientMemory, Pieces};
+use gl_words::Call;
+use std::alloc::{AllocError, AllocError as NoMemory, Global};
+use std::sync::Wait;
+use std::test::Fail;
+use std::thread::Threads;
+
+/// Submits each call in a batch of its own and an empty one between, over a rail of this part, and gives the recorder
+/// and how many there were.
+fn carried_out<T: Threads + Sync, W: Wait, P: WaitPart<Recorder>>(
+    rt: &T,
+    wait: &W,
+    alloc: Global,
+    part: &mut P,
+    first: &Call,
+    second: &Call,
+) -> Result<(Recorder, u64), NoMemory> {
+    let memory = ClientMemory::new(alloc, 0)?;
+    let mut batch = Batch::new(alloc, 16)?;
+    if batch.try_pack(first, &Pieces::new(), &memory).is_err() {
+        return Err(AllocError);
+    }
+    let Ok(mut rail) = part.launch(rt, wait, alloc, Recorder::new(alloc), 16, 4) else {
+        return Err(AllocError);
+    };
+    let empty = rail.submit(rt, wait, batch);
+    let mut batch = rail.submit(rt, wait, empty);
+    let driver = rail.take(rt, wait)?;
+    rail.put(rt, wait, driver);
+    if batch.try_pack(second, &Pieces::new(), &memory).is_err() {
+        return Err(AllocError);
+    }
+    let _empty = rail.submit(rt, wait, batch);
+    let sent = rail.sent();
+    Ok((part.close(rt, wait, rail)?, sent))
+}
+
+/// The same over a part that is split from its maker, and joined again.
+fn carried_out_by_a_part<T: Threads + Sync, W: Wait, M: WaitMaker<Recorder>>(
+    rt: &T,
+    wait: &W,
+    alloc: Global,
+    maker: &mut M,
+    first: &Call,
+    second: &Call,
+) -> Result<(Recorder, u64), NoMemory> {
+    let mut part = maker.split(3);
+    let done = carried_out(rt, wait, alloc, &mut part, first, second);
+    maker.join(3, part);
+    done
+}
+
+/// Submits one batch.
+#[derive(Drop)]
+struct Submitting {
+    batch: Batch,
+}
+
+impl RailUser<Recorder> for Submitting {
+    type Out = u64;
+
+    ghost ready = { λ user slots driver. user.batch.size ≡ slots };
+
+    ghost leads = { λ user slots sent before batches after. (sent ≡ 1)
+        × (batches ≡ user.batch.calls ∷ []) × Run RecorderSteps before user.batch.calls after };
+
+    fn use_rail<T: Threads + Sync, W: Wait, R: WaitRail<Recorder>>(
+        self,
+        rt: &T,
+        wait: &W,
+        _alloc: Global,
+        rail: R,
+        _slots: u32,
+    ) -> (R, Result<u64, NoMemory>) {
+        let mut rail = rail;
+        let _empty = rail.submit(rt, wait, self.batch);
+        let sent = rail.sent();
+        (rail, Ok(sent))
+    }
+}
+
+/// Has a batch of one call submitted by a part, in one call.
+fn submitted<T: Threads + Sync, W: Wait, P: WaitPart<Recorder>>(
+    rt: &T,
+    wait: &W,
+    alloc: Global,
+    part: &mut P,
+    call: &Call,
+) -> Result<(Recorder, u64), NoMemory> {
+    let memory = ClientMemory::new(alloc, 0)?;
+    let mut batch = Batch::new(alloc, 16)?;
+    if batch.try_pack(call, &Pieces::new(), &memory).is_err() {
+        return Err(AllocError);
+    }
+    part.with_rail(rt, wait, alloc, Recorder::new(alloc), 16, 4, Submitting { batch })
+}
+
+const CALLS: [Call; 2] = [Call::Clear { mask: 1 }, Call::Flush];
+
+#[test]
+fn a_part_makes_a_rail_that_carries_out_what_was_submitted(rt: HostRuntime) -> Result<(), Fail> {
+    let mut maker = InlineMaker::new();
+    let kind = WaitMaker::<Recorder>::kind(&maker);
+    assert_eq!(rt; kind, RailKind::Inline);
+    let alloc = rt.alloc();
+    let (driver, sent) = carried_out_by_a_part(&rt, &rt, alloc, &mut maker, &CALLS[0], &CALLS[1])?;
+    assert_eq!(rt; driver.calls(), CALLS.as_slice());
+    assert_eq!(rt; sent, 3);
+    let mut part = WaitMaker::<Recorder>::split(&mut maker, 0);
+    let (driver, sent) = submitted(&rt, &rt, alloc, &mut part, &CALLS[0])?;
+    assert_eq!(rt; driver.calls(), &CALLS[..1]);
+    assert_eq!(rt; sent, 1);
+    WaitMaker::<Recorder>::join(&mut maker, 0, part);
+    Ok(())
+}
+
+// The slots are those of the tests of `batch_pack`.
+#[test]
+fn a_part_has_what_is_told_of_its_context_until_it_is_back(rt: HostRuntime) -> Result<(), Fail> {
+    let alloc = rt.alloc();
+    let mut maker = JournalMaker::new(alloc, RailKind::Epoch, 5)?;
+    let kind = WaitMaker::<Recorder>::kind(&maker);
+    assert_eq!(rt; kind, RailKind::Epoch);
+    let (driver, sent) = carried_out_by_a_part(&rt, &rt, alloc, &mut maker, &CALLS[0], &CALLS[1])?;
+    assert_eq!(rt; driver.calls(), CALLS.as_slice());
+    assert_eq!(rt; sent, 3);
+    tells(&rt, &maker, 3, &[&[0x2_0008, 1], &[], &[0x1_001c]]);
+    let mut part = WaitMaker::<Recorder>::split(&mut maker, 3);
+    assert!(rt; maker.journal(3).is_none(), "the part has the list");
+    tells(&rt, &maker, 2, &[]);
+    let (driver, sent) = submitted(&rt, &rt, alloc, &mut part, &CALLS[0])?;
+    assert_eq!(rt; driver.calls(), &CALLS[..1]);
+    assert_eq!(rt; sent, 1);
+    assert!(rt; maker.journal(3).is_none(), "the part has the list still");
+    WaitMaker::<Recorder>::join(&mut maker, 3, part);
+    tells(&rt, &maker, 3, &[&[0x2_0008, 1], &[], &[0x1_001c], &[0x2_0008, 1]]);
+    Ok(())
+}
