@@ -1,4 +1,5 @@
-//! The front: the part of the layer that a program calls. It has no driver, and reaches one through its rail.
+//! The core of a front: the part of the layer that a program calls, written once for rails whose calls return and for rails
+//! whose calls may wait. It has no driver, and reaches one through its rail.
 
 ghost use Rattle.std.specs.Prelude.{◌≡◌, ◌^◌, ◌<◌, [], Some, true, false, is_some, IsErr, IfOk, IfErr, OnOk, OnErr};
 ghost use Rattle.gl_words.specs.Call.{is_answering, IsInRange};
@@ -19,21 +20,23 @@ ghost use Rattle.gl_front.specs.Given.{given_by};
 ghost use Rattle.gl_front.specs.Taking.{TakesCall, IsIssued, IsAnswered, HasWaited, Flushes, RefusesCall, KeepsCount};
 
 use crate::counts::Counts;
-use crate::steps::{await_all, carry_out, put_off, submit_open};
+use crate::reach::Reach;
+use crate::steps::{put_off, submit_open};
 use batch_pack::{Batch, Heading};
-use batch_rail::Rail;
+use batch_rail::RailState;
 use client_shadow::{Becomes, Class, Look, Shadow};
-use driver_trait::{Driver, Reply, write_reply};
+use driver_trait::{Machine, Reply, write_reply};
 use gl_memory::{ClientMemory, Pieces};
 use gl_words::{Call, GlError};
 use std::alloc::{AllocError, AllocError as NoMemory, Global};
 use std::marker::{Model, PhantomData};
 use std::thread::Threads;
 
-/// A front over a rail; own. Contracts see its rail, the size of its batches in slots, the calls of its open batch with
-/// what was captured for them, the bytes of client memory, the tracked state, whether an issue was refused, and its counts.
+/// A front over a rail that is reached as `H` reaches it; own. Contracts see its rail, the size of its batches in slots, the
+/// calls of its open batch with what was captured for them, the bytes of client memory, the tracked state, whether an issue
+/// was refused, and its counts.
 #[derive(Drop)]
-pub struct Front<D: Driver, R: Rail<D>> {
+pub struct Core<D: Machine, R: RailState<D>, H> {
     rail: R,
     batch: Option<Batch>,
     memory: ClientMemory,
@@ -41,9 +44,10 @@ pub struct Front<D: Driver, R: Rail<D>> {
     refused: bool,
     counts: Counts,
     driver: PhantomData<D>,
+    reach: PhantomData<H>,
 }
 
-impl<D: Driver, R: Rail<D>> Model for Front<D, R> {
+impl<D: Machine, R: RailState<D>, H> Model for Core<D, R, H> {
     ghost use Rattle.gl_front.specs.Front.{FrontView, KnowsTracked};
     ghost use Rattle.gl_front.specs.FrontState.{open_calls, IsReady};
 
@@ -71,21 +75,23 @@ impl<D: Driver, R: Rail<D>> Model for Front<D, R> {
         }) };
 }
 
-impl<D: Driver, R: Rail<D>> Front<D, R> {
-    /// A front over a rail as it is launched and over client memory, with an empty batch of the rail's size. Want of
-    /// memory gives both back; own.
-    pub fn new(
+impl<D: Machine, R: RailState<D>, H> Core<D, R, H> {
+    /// A front over a rail with batches of so many slots, as it is launched, and over client memory. Want of memory gives
+    /// both back.
+    pub(crate) fn over(
         alloc: Global,
         rail: R,
+        slots: u32,
         memory: ClientMemory,
     ) -> Result<Self, (R, ClientMemory, NoMemory)>
+        requires size { slots ≡ R.size rail }
         requires launched { IsLaunched D.tracked (R.stands rail) (R.failed rail) (R.home rail)
             (R.size rail) first_tracked }
         ensures ok { IfOk result (λ front. front ≡ new_front rail (R.size rail) memory) }
         ensures err { IfErr result (λ refusal. (refusal.0 ≡ rail) × (refusal.1 ≡ memory)) }
     {
-        match Batch::new(alloc, rail.slots()) {
-            Ok(batch) => Ok(Front {
+        match Batch::new(alloc, slots) {
+            Ok(batch) => Ok(Core {
                 rail,
                 batch: Some(batch),
                 memory,
@@ -98,6 +104,7 @@ impl<D: Driver, R: Rail<D>> Front<D, R> {
                     batches: 0,
                 },
                 driver: PhantomData,
+                reach: PhantomData,
             }),
             Err(refusal) => Err((rail, memory, refusal)),
         }
@@ -107,7 +114,7 @@ impl<D: Driver, R: Rail<D>> Front<D, R> {
     pub fn class(&self, call: &Call) -> Class
         ensures { result ≡ class_at self.now call.now }
     {
-        self.shadow.class(call, &self.memory, self.rail.slots())
+        self.shadow.class(call, &self.memory, self.slots())
     }
 
     /// The size of its batches, in slots: that of its rail; own.
@@ -116,7 +123,10 @@ impl<D: Driver, R: Rail<D>> Front<D, R> {
         ensures rail { R.size self.now.rail ≡ self.now.size }
         ensures bounds { IsBatchSize self.now.size }
     {
-        self.rail.slots()
+        let Some(batch) = &self.batch else {
+            unreachable!()
+        };
+        batch.size()
     }
 
     /// Does nothing. Its contract is that the front keeps the tracked part of each state for which it may stand; own.
@@ -130,11 +140,14 @@ impl<D: Driver, R: Rail<D>> Front<D, R> {
     /// the call asks for nothing (sections 2.5, 4.3.1 and 6.1). Only a call that waits meets the first NoMemory: a batch before
     /// it failed, or the driver was refused memory at the call itself. After a refusal every later issue is refused and does
     /// nothing; own.
-    pub fn issue<T: Threads + Sync>(
+    pub fn issue_by<T: Threads + Sync, W>(
         &mut self,
         rt: &T,
+        wait: &W,
         call: &Call,
     ) -> Result<Option<Reply>, NoMemory>
+    where
+        H: Reach<W, D, R>,
         requires counts { AllHaveRoom self.old.counts }
         requires sent { CanRise (R.sent self.old.rail) }
         ensures ok { IfOk result (λ given. TakesCall R.stands R.failed R.journal R.sent D.steps
@@ -153,11 +166,11 @@ impl<D: Driver, R: Rail<D>> Front<D, R> {
         let look = self.look(call);
         match &look.becomes {
             Becomes::Defer { pieces, heading } => {
-                self.put_off(rt, call, pieces, *heading, look.fault);
+                self.put_off(rt, wait, call, pieces, *heading, look.fault);
                 Ok(None)
             }
             Becomes::Answer(number) => Ok(Some(self.answer(call, *number))),
-            Becomes::Sync { asks } => self.synchronise(rt, call, *asks, look.fault),
+            Becomes::Sync { asks } => self.synchronise(rt, wait, call, *asks, look.fault),
         }
     }
 
@@ -172,7 +185,7 @@ impl<D: Driver, R: Rail<D>> Front<D, R> {
         ensures fault { result.fault ≡ fault_of self.now.tracked call.now }
         ensures in_range { IsInRange call.now }
     {
-        self.shadow.look(call, &self.memory, self.rail.slots())
+        self.shadow.look(call, &self.memory, self.slots())
     }
 
     /// Answers a call with the number that is known, and writes it. Such a call leaves the tracked state.
@@ -193,7 +206,9 @@ impl<D: Driver, R: Rail<D>> Front<D, R> {
     }
 
     /// Puts a call that doesn't wait into a batch. It takes no memory, and has no refusal; own.
-    pub fn defer<T: Threads + Sync>(&mut self, rt: &T, call: &Call)
+    pub(crate) fn defer_by<T: Threads + Sync, W>(&mut self, rt: &T, wait: &W, call: &Call)
+    where
+        H: Reach<W, D, R>,
         requires class { class_at self.old call.now ≡ Defer }
         requires deferred { CanRise self.old.counts.deferred }
         requires batches { CanRise self.old.counts.batches }
@@ -205,21 +220,24 @@ impl<D: Driver, R: Rail<D>> Front<D, R> {
         let look = self.look(call);
         match &look.becomes {
             Becomes::Defer { pieces, heading } => {
-                self.put_off(rt, call, pieces, *heading, look.fault);
+                self.put_off(rt, wait, call, pieces, *heading, look.fault);
             }
             Becomes::Answer(_) | Becomes::Sync { .. } => unreachable!(),
         }
     }
 
     /// Puts a call into a batch with the pieces that are captured for it, its spelling having this heading, and notes it.
-    fn put_off<T: Threads + Sync>(
+    fn put_off<T: Threads + Sync, W>(
         &mut self,
         rt: &T,
+        wait: &W,
         call: &Call,
         pieces: &Pieces,
         heading: Heading,
         fault: Option<GlError>,
     )
+    where
+        H: Reach<W, D, R>,
         requires in_range { IsInRange call.now }
         requires class { class_at self.old call.now ≡ Defer }
         requires pieces { pieces.now
@@ -234,8 +252,9 @@ impl<D: Driver, R: Rail<D>> Front<D, R> {
         ensures rises { KeepsCount R.sent self.old self.new }
     {
         self.memory.bytes();
-        let sent = put_off(
+        let sent = put_off::<H, W, T, D, R>(
             rt,
+            wait,
             &mut self.rail,
             &mut self.batch,
             call,
@@ -249,13 +268,16 @@ impl<D: Driver, R: Rail<D>> Front<D, R> {
     }
 
     /// Has all calls before a call carried out, and then it. Gives its reply where it asks for something.
-    fn synchronise<T: Threads + Sync>(
+    fn synchronise<T: Threads + Sync, W>(
         &mut self,
         rt: &T,
+        wait: &W,
         call: &Call,
         asks: bool,
         fault: Option<GlError>,
     ) -> Result<Option<Reply>, NoMemory>
+    where
+        H: Reach<W, D, R>,
         requires in_range { IsInRange call.now }
         requires class { class_at self.old call.now ≡ Sync }
         requires asks { asks ≡ is_answering call.now }
@@ -273,8 +295,8 @@ impl<D: Driver, R: Rail<D>> Front<D, R> {
         ensures rises { KeepsCount R.sent self.old self.new }
     {
         self.memory.bytes();
-        self.flush(rt);
-        let carried = carry_out(rt, &mut self.rail, call, &self.memory);
+        self.flush_by(rt, wait);
+        let carried = H::carry_out(&mut self.rail, rt, wait, call, &self.memory);
         match carried {
             Ok(reply) => {
                 self.counts.synchronised += 1;
@@ -288,19 +310,27 @@ impl<D: Driver, R: Rail<D>> Front<D, R> {
     }
 
     /// Submits the open batch, unless it is empty; own.
-    pub fn flush<T: Threads + Sync>(&mut self, rt: &T)
+    pub(crate) fn flush_by<T: Threads + Sync, W>(&mut self, rt: &T, wait: &W)
+    where
+        H: Reach<W, D, R>,
         requires batches { CanRise self.old.counts.batches }
         requires sent { CanRise (R.sent self.old.rail) }
         ensures flushed { Flushes R.stands R.failed R.journal R.sent D.steps self.old self.new }
         ensures kept { self.old.calls ≡ [] → self.new.rail ≡ self.old.rail }
         ensures rises { KeepsCount R.sent self.old self.new }
     {
-        let sent = submit_open(rt, &mut self.rail, &mut self.batch);
+        let sent = submit_open::<H, W, T, D, R>(rt, wait, &mut self.rail, &mut self.batch);
         self.counts.batches += sent;
     }
 
     /// Submits the open batch and waits until all are carried out. Refused only where one failed; own.
-    pub fn finish<T: Threads + Sync>(&mut self, rt: &T) -> Result<(), NoMemory>
+    pub(crate) fn finish_by<T: Threads + Sync, W>(
+        &mut self,
+        rt: &T,
+        wait: &W,
+    ) -> Result<(), NoMemory>
+    where
+        H: Reach<W, D, R>,
         requires batches { CanRise self.old.counts.batches }
         requires sent { CanRise (R.sent self.old.rail) }
         ensures flushed { Flushes R.stands R.failed R.journal R.sent D.steps self.old self.new }
@@ -308,8 +338,8 @@ impl<D: Driver, R: Rail<D>> Front<D, R> {
         ensures err { OnErr result (R.failed self.new.rail) }
         ensures rises { KeepsCount R.sent self.old self.new }
     {
-        self.flush(rt);
-        await_all(&mut self.rail)
+        self.flush_by(rt, wait);
+        H::await_all(&mut self.rail, rt, wait)
     }
 
     /// Writes bytes into client memory from the place `at` on. Those that fall outside are dropped; own.
@@ -341,7 +371,7 @@ impl<D: Driver, R: Rail<D>> Front<D, R> {
         ensures memory { result.1 ≡ self.memory }
         ensures home { R.home result.0 }
     {
-        let Front { rail, memory, .. } = self;
+        let Core { rail, memory, .. } = self;
         (rail, memory)
     }
 }

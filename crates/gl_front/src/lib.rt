@@ -3,7 +3,13 @@
 
 mod counts;
 mod front;
+mod plain_front;
+mod reach;
 mod steps;
+mod wait_front;
 
 pub use counts::Counts;
-pub use front::Front;
+pub use front::Core;
+pub use plain_front::Front;
+pub use reach::Reach;
+pub use wait_front::WaitFront;

@@ -1,32 +1,30 @@
-//! The steps of a front, over a rail and an open batch: putting a call behind the others, submitting,
-//! carrying one out at once. No front stands here.
+//! The steps of a front, over a rail and an open batch: putting a call behind the others, and submitting. No front stands here.
 
-ghost use Rattle.std.specs.Prelude.{◌≡◌, ◌+◌, ◌-◌, ◌^◌, ◌<◌, ◌≤◌, [], ◌∷◌, ◌++◌, length, IfOk, OnOk, OnErr};
+ghost use Rattle.std.specs.Prelude.{◌≡◌, ◌+◌, ◌-◌, ◌^◌, ◌<◌, ◌≤◌, [], ◌∷◌, ◌++◌, length};
 ghost use Rattle.client_shadow.specs.declared.class.Class.TheVariants.{Defer};
 ghost use Rattle.batch_pack.specs.Spelling.{Spelled, slots_of};
 ghost use Rattle.batch_pack.specs.Batch.{captured, slots_left};
 ghost use Rattle.client_shadow.specs.Cutting.{batch_unless_empty, joined, cut_before, ended_by, open_by};
 ghost use Rattle.batch_pack.specs.Heading.{IsHeadingOf};
 ghost use Rattle.batch_rail.specs.Run.{RunsFrom};
-ghost use Rattle.batch_rail.specs.Rail.{Gains, StandsForNoMore};
-ghost use Rattle.driver_trait.specs.Reply.{replied};
-ghost use Rattle.gl_memory.specs.ClientMemory.{memory_of};
+ghost use Rattle.batch_rail.specs.Rail.{Gains};
 ghost use Rattle.gl_front.specs.Front.{FailsOnlyBy};
 ghost use Rattle.gl_front.specs.FrontState.{open_calls, IsReady};
 
+use crate::reach::Reach;
 use batch_pack::{Batch, Heading};
-use batch_rail::Rail;
+use batch_rail::RailState;
 use client_shadow::sends_batch;
-use driver_trait::{Driver, Reply};
+use driver_trait::Machine;
 use gl_memory::{ClientMemory, Pieces};
 use gl_words::Call;
-use std::alloc::AllocError as NoMemory;
 use std::thread::Threads;
 
 /// Submits the open batch unless it is empty, and leaves an empty one there. Tells how many were
 /// submitted: 0 or 1.
-pub fn submit_open<T: Threads + Sync, D: Driver, R: Rail<D>>(
+pub fn submit_open<H: Reach<W, D, R>, W, T: Threads + Sync, D: Machine, R: RailState<D>>(
     rt: &T,
+    wait: &W,
     rail: &mut R,
     open_batch: &mut Option<Batch>,
 ) -> u64
@@ -55,14 +53,15 @@ pub fn submit_open<T: Threads + Sync, D: Driver, R: Rail<D>>(
     let Some(batch) = open_batch.take() else {
         unreachable!()
     };
-    *open_batch = Some(rail.submit(rt, batch));
+    *open_batch = Some(H::submit(rail, rt, wait, batch));
     1
 }
 
 /// Makes room in the open batch for a call of so many slots: submits it where the call doesn't fit,
 /// and else touches nothing. Tells how many were submitted: 0 or 1.
-fn make_room<T: Threads + Sync, D: Driver, R: Rail<D>>(
+fn make_room<H: Reach<W, D, R>, W, T: Threads + Sync, D: Machine, R: RailState<D>>(
     rt: &T,
+    wait: &W,
     rail: &mut R,
     open_batch: &mut Option<Batch>,
     slots: u64,
@@ -99,13 +98,14 @@ fn make_room<T: Threads + Sync, D: Driver, R: Rail<D>>(
     if slots <= u64::from(batch.left()) {
         return 0;
     }
-    submit_open(rt, rail, open_batch)
+    submit_open::<H, W, T, D, R>(rt, wait, rail, open_batch)
 }
 
 /// Puts a deferred call behind those of the open batch, with the batches that end at it submitted. Where the call fits and
 /// doesn't send the batch, none ends, and the rail isn't touched. Tells how many were submitted: 0 to 2.
-pub fn put_off<T: Threads + Sync, D: Driver, R: Rail<D>>(
+pub fn put_off<H: Reach<W, D, R>, W, T: Threads + Sync, D: Machine, R: RailState<D>>(
     rt: &T,
+    wait: &W,
     rail: &mut R,
     open_batch: &mut Option<Batch>,
     call: &Call,
@@ -137,56 +137,13 @@ pub fn put_off<T: Threads + Sync, D: Driver, R: Rail<D>>(
         (ended_by Defer (R.size rail.old) (open_calls open_batch.old)
         (captured call.now pieces.now memory.now)) }
 {
-    let before = make_room(rt, rail, open_batch, heading.slots);
+    let before = make_room::<H, W, T, D, R>(rt, wait, rail, open_batch, heading.slots);
     let Some(batch) = open_batch else {
         unreachable!()
     };
     batch.pack(call, pieces, memory, heading);
     if sends_batch(call) {
-        return before + submit_open(rt, rail, open_batch);
+        return before + submit_open::<H, W, T, D, R>(rt, wait, rail, open_batch);
     }
     before
-}
-
-/// Carries a call out at once, all submitted batches being carried out before it.
-pub fn carry_out<T: Threads + Sync, D: Driver, R: Rail<D>>(
-    rt: &T,
-    rail: &mut R,
-    call: &Call,
-    memory: &ClientMemory,
-) -> Result<Reply, NoMemory>
-    requires home { R.home rail.old }
-    ensures replied { IfOk result (λ reply. (st : D) × (st2 : D) × R.stands rail.old st
-        × D.steps st call.now (memory_of memory.now) st2 (replied reply)) }
-    ensures ok { IfOk result (λ reply. (st2 : D) → R.stands rail.new st2 → (st : D)
-        × R.stands rail.old st
-        × D.steps st call.now (memory_of memory.now) st2 (replied reply)) }
-    ensures sound { OnOk result (¬ R.failed rail.new) }
-    ensures failed { R.failed rail.new → R.failed rail.old }
-    ensures err { OnErr result (StandsForNoMore (R.stands rail.old) (R.stands rail.new)) }
-    ensures home { R.home rail.new }
-    ensures size { R.size rail.new ≡ R.size rail.old }
-    ensures sent { R.sent rail.new ≡ R.sent rail.old }
-    ensures journal { Gains (R.journal rail.old) (R.journal rail.new) [] }
-{
-    let mut driver = rail.take()?;
-    let reply = driver.call(rt, call, memory);
-    rail.put(driver);
-    reply
-}
-
-/// Waits until all submitted batches are carried out. Refused only where one of them failed.
-pub fn await_all<D: Driver, R: Rail<D>>(rail: &mut R) -> Result<(), NoMemory>
-    requires home { R.home rail.old }
-    ensures stands { StandsForNoMore (R.stands rail.old) (R.stands rail.new) }
-    ensures sound { OnOk result (¬ R.failed rail.new) }
-    ensures err { OnErr result (R.failed rail.old × R.failed rail.new) }
-    ensures home { R.home rail.new }
-    ensures size { R.size rail.new ≡ R.size rail.old }
-    ensures sent { R.sent rail.new ≡ R.sent rail.old }
-    ensures journal { Gains (R.journal rail.old) (R.journal rail.new) [] }
-{
-    let driver = rail.take()?;
-    rail.put(driver);
-    Ok(())
 }

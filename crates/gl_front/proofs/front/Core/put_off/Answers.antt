@@ -13,7 +13,7 @@ use Rattle.gl_front.proofs.Captures.{captured-agrees, captured-short, ended_by-i
 use Rattle.gl_front.proofs.Failures.{FailsOnlyBy-along}
 use Rattle.gl_front.proofs.Fronts.{carries_put_off, knows_on}
 use Rattle.gl_front.proofs.Takings.{counts_after-defer}
-use Rattle.gl_front.proofs.front.Front.put_off.Goals as goal
+use Rattle.gl_front.proofs.front.Core.put_off.Goals as goal
 
 pub put_off-sent-requires-clause-heading : goal.put_off-sent-requires-clause-heading
 put_off-sent-requires-clause-heading g c κs live = rw (← c.self.view_is) at c.requires.heading

@@ -9,7 +9,7 @@ use Rattle.gl_front.specs.Front.{FrontView}
 use Rattle.gl_front.specs.FrontState.{open_calls}
 use Rattle.gl_front.proofs.Fronts.{carries_answered}
 use Rattle.gl_front.proofs.Takings.{takes-answer}
-use Rattle.gl_front.proofs.front.Front.answer.Goals as goal
+use Rattle.gl_front.proofs.front.Core.answer.Goals as goal
 
 pub returns-clause-taken : goal.returns-clause-taken
 returns-clause-taken g c =
