@@ -4,5 +4,5 @@
 mod lines;
 mod results;
 
-pub use lines::run_lines;
+pub use lines::{run_lines, wait_run_lines};
 pub use results::{Done, Printed, Results, What, answer_of, image_of};

@@ -23,7 +23,7 @@ pub returns-in_err-reply-in-Gl-clause-stopped : goal.returns-in_err-reply-in-Gl-
 returns-in_err-reply-in-Gl-clause-stopped g c =
     let refused = c.in_err-reply-in-Gl.ensures in
     OnErr-always c.from_residual-in_err-reply-in-Gl.result
-    (StopsOn-refused g.D.Machine.tracked g.D.Machine.steps g.R.RailState.stands g.R.RailState.failed g.R.RailState.journal g.R.RailState.sent c.args.line.now c.args.front.now c.issue.new.self c.args.results.now
+    (StopsOn-refused g.D.Machine.tracked g.D.Machine.steps g.R.RailState.stands g.R.RailState.failed g.R.RailState.journal g.R.RailState.sent c.args.line.now c.args.front.now c.issue_by.new.self c.args.results.now
     c.in-Gl.call c.in-Gl.is refused.err (λ is. (refused.idle is).1))
 
 pub returns-in_ok-what-in-Image-clause-ok : goal.returns-in_ok-what-in-Image-clause-ok
@@ -47,8 +47,8 @@ pub returns-in-Some-clause-ok : goal.returns-in-Some-clause-ok
 returns-in-Some-clause-ok g c =
     on_ok_weaker c.answer.result
     (RunsOn-call g.D.Machine.tracked g.D.Machine.steps g.R.RailState.stands g.R.RailState.journal g.R.RailState.failed g.R.RailState.sent c.args.line.now
-    c.in-Gl.call (replied c.in-Some.reply) c.args.front.now c.issue.new.self c.args.results.now c.answer.new.self
-    c.in-Gl.is c.knows_tracked.ensures (subst (λ (given : Option Reply). TakesCall g.R.RailState.stands g.R.RailState.failed g.R.RailState.journal g.R.RailState.sent g.D.Machine.steps c.args.front.now c.issue.new.self c.in-Gl.call (given_by given)) c.in-Some.is c.in_ok-reply-in-Gl.ensures.ok))
+    c.in-Gl.call (replied c.in-Some.reply) c.args.front.now c.issue_by.new.self c.args.results.now c.answer.new.self
+    c.in-Gl.is c.knows_tracked.ensures (subst (λ (given : Option Reply). TakesCall g.R.RailState.stands g.R.RailState.failed g.R.RailState.journal g.R.RailState.sent g.D.Machine.steps c.args.front.now c.issue_by.new.self c.in-Gl.call (given_by given)) c.in-Some.is c.in_ok-reply-in-Gl.ensures.ok))
     c.answer.ensures.ok
 
 pub returns-in-Some-clause-stopped : goal.returns-in-Some-clause-stopped
@@ -56,14 +56,14 @@ returns-in-Some-clause-stopped g c =
     let issued = c.in_ok-reply-in-Gl.ensures in
     on_err_weaker c.answer.result
     (StopsOn-untold g.D.Machine.tracked g.D.Machine.steps g.R.RailState.stands g.R.RailState.failed g.R.RailState.journal g.R.RailState.sent c.args.line.now
-    c.in-Gl.call (replied c.in-Some.reply) c.args.front.now c.issue.new.self c.args.results.now c.answer.new.self
-    c.in-Gl.is c.knows_tracked.ensures (subst (λ (given : Option Reply). TakesCall g.R.RailState.stands g.R.RailState.failed g.R.RailState.journal g.R.RailState.sent g.D.Machine.steps c.args.front.now c.issue.new.self c.in-Gl.call (given_by given)) c.in-Some.is issued.ok) (sym issued.asked ∙ ap is_some c.in-Some.is))
+    c.in-Gl.call (replied c.in-Some.reply) c.args.front.now c.issue_by.new.self c.args.results.now c.answer.new.self
+    c.in-Gl.is c.knows_tracked.ensures (subst (λ (given : Option Reply). TakesCall g.R.RailState.stands g.R.RailState.failed g.R.RailState.journal g.R.RailState.sent g.D.Machine.steps c.args.front.now c.issue_by.new.self c.in-Gl.call (given_by given)) c.in-Some.is issued.ok) (sym issued.asked ∙ ap is_some c.in-Some.is))
     c.answer.ensures.err
 
 pub returns-in-None-clause-ok : goal.returns-in-None-clause-ok
 returns-in-None-clause-ok g c =
     let issued = c.in_ok-reply-in-Gl.ensures in
     RunsOn-call g.D.Machine.tracked g.D.Machine.steps g.R.RailState.stands g.R.RailState.journal g.R.RailState.failed g.R.RailState.sent c.args.line.now
-    c.in-Gl.call Nothing c.args.front.now c.issue.new.self c.args.results.now c.args.results.now
-    c.in-Gl.is c.knows_tracked.ensures (subst (λ (given : Option Reply). TakesCall g.R.RailState.stands g.R.RailState.failed g.R.RailState.journal g.R.RailState.sent g.D.Machine.steps c.args.front.now c.issue.new.self c.in-Gl.call (given_by given)) c.in-None.is issued.ok)
+    c.in-Gl.call Nothing c.args.front.now c.issue_by.new.self c.args.results.now c.args.results.now
+    c.in-Gl.is c.knows_tracked.ensures (subst (λ (given : Option Reply). TakesCall g.R.RailState.stands g.R.RailState.failed g.R.RailState.journal g.R.RailState.sent g.D.Machine.steps c.args.front.now c.issue_by.new.self c.in-Gl.call (given_by given)) c.in-None.is issued.ok)
     (nothing_told c.args.line.now.number c.args.line.now.context c.in-Gl.call Nothing c.args.results.now (sym issued.asked ∙ ap is_some c.in-None.is))

@@ -9,8 +9,8 @@ use Rattle.replay_lines.specs.Results.{DoneView}
 use Rattle.replay_lines.proofs.LinesLemmas.{lines_in-around, lines_in-its, lines_in-others}
 use Rattle.replay_lines.proofs.Risings.{AllRiseBy-none, AllRiseBy-more, AllRiseBy-up_to}
 use Rattle.replay_lines.proofs.RunLemmas.{OnErr-always, RunsOn-nil, RunsOn-then, StopsOn-before, StopsOn-then}
-use Rattle.replay_lines.proofs.lines.run_lines.Goals as goal
-use Rattle.replay_lines.proofs.lines.run_lines.Goals.{then-line-context+in_ok-run_line, else-line-context}
+use Rattle.replay_lines.proofs.lines.run_in_order.Goals as goal
+use Rattle.replay_lines.proofs.lines.run_in_order.Goals.{then-line-context+in_ok-run_line, else-line-context}
 
 pub loop-line-init : goal.loop-line-init
 loop-line-init g c = record {

@@ -3,7 +3,7 @@ use Rattle.replay_lines.specs.Limits.{AllRiseBy}
 use Rattle.replay_lines.specs.Lines.{lines_in}
 use Rattle.replay_lines.specs.Results.{DoneView}
 use Rattle.replay_lines.specs.Running.{RunsOn}
-use Rattle.replay_lines.proofs.lines.run_lines.Given as goal
+use Rattle.replay_lines.proofs.lines.run_in_order.Given as goal
 
 -- the lines so far were run, little was counted, and as much was sent
 abbrev pub invariant-loop-line : goal.invariant-loop-line
