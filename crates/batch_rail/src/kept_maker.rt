@@ -1,6 +1,6 @@
 //! The makers of rails that keep what was submitted. How a rail does so stands in `kept.rt`.
 
-ghost use Rattle.std.specs.Prelude.{◌≡◌, ◌↔◌, ℕ, ◌+◌, ◌-◌, ◌^◌, ◌<◌, ◌≤◌, Some, None, IsSome, IsErr, true, IfOk, IfErr, OnErr, OnOk};
+ghost use Rattle.std.specs.Prelude.{◌≡◌, ◌↔◌, ℕ, ◌+◌, ◌-◌, ◌^◌, ◌<◌, Some, None, IsSome, IsErr, true, IfOk, IfErr, OnErr, OnOk};
 ghost use Rattle.batch_pack.specs.Batch.{IsBatchSize};
 ghost use Rattle.batch_rail.specs.Rail.{HasDriver};
 ghost use Rattle.batch_rail.specs.Maker.{IsRingLength, IsLaunched, IsUnused};

@@ -13,7 +13,7 @@ use gl_words::Call;
 use std::alloc::{AllocError, AllocError as NoMemory, Global};
 use std::sync::Wait;
 use std::test::Fail;
-use std::thread::Threads;
+use std::thread::{Threads, join};
 
 /// Submits each call in a batch of its own and an empty one between, over a rail of this part, and gives the recorder
 /// and how many there were.
@@ -102,7 +102,62 @@ fn submitted<T: Threads + Sync, W: Wait, P: WaitPart<Recorder>>(
     if batch.try_pack(call, &Pieces::new(), &memory).is_err() {
         return Err(AllocError);
     }
-    part.with_rail(rt, wait, alloc, Recorder::new(alloc), 16, 4, Submitting { batch })
+    part.with_rail(
+        rt,
+        wait,
+        alloc,
+        Recorder::new(alloc),
+        16,
+        4,
+        Submitting { batch },
+    )
+}
+
+/// What a part gives back, with what came of its context.
+type Back<P> = (P, Result<(Recorder, u64), NoMemory>);
+
+/// The same by a part that moves to the thread that calls this, and comes back.
+fn submitted_there<T: Threads + Wait + Sync, P: WaitPart<Recorder>>(
+    rt: &T,
+    alloc: Global,
+    part: P,
+    call: Call,
+) -> Back<P> {
+    let mut part = part;
+    let done = submitted(rt, rt, alloc, &mut part, &call);
+    (part, done)
+}
+
+/// Two contexts at once, each by its part in a thread of its own.
+fn in_two_threads<T: Threads + Wait + Sync, P: WaitPart<Recorder> + Send>(
+    rt: &T,
+    alloc: Global,
+    one: P,
+    two: P,
+    first: Call,
+    second: Call,
+) -> (Back<P>, Back<P>) {
+    join(
+        rt,
+        || submitted_there(rt, alloc, one, first),
+        || submitted_there(rt, alloc, two, second),
+    )
+}
+
+/// Two contexts of this maker at once.
+fn submitted_by_two<T: Threads + Wait + Sync, M: WaitMaker<Recorder>>(
+    rt: &T,
+    alloc: Global,
+    maker: &mut M,
+    first: Call,
+    second: Call,
+) -> Result<(Recorder, Recorder), NoMemory> {
+    let one = maker.split(0);
+    let two = maker.split(1);
+    let (one, two) = in_two_threads(rt, alloc, one, two, first, second);
+    maker.join(0, one.0);
+    maker.join(1, two.0);
+    Ok((one.1?.0, two.1?.0))
 }
 
 const CALLS: [Call; 2] = [Call::Clear { mask: 1 }, Call::Flush];
@@ -143,6 +198,23 @@ fn a_part_has_what_is_told_of_its_context_until_it_is_back(rt: HostRuntime) -> R
     assert_eq!(rt; sent, 1);
     assert!(rt; maker.journal(3).is_none(), "the part has the list still");
     WaitMaker::<Recorder>::join(&mut maker, 3, part);
-    tells(&rt, &maker, 3, &[&[0x2_0008, 1], &[], &[0x1_001c], &[0x2_0008, 1]]);
+    tells(
+        &rt,
+        &maker,
+        3,
+        &[&[0x2_0008, 1], &[], &[0x1_001c], &[0x2_0008, 1]],
+    );
+    Ok(())
+}
+
+#[test]
+fn two_contexts_have_their_parts_in_threads_of_their_own(rt: HostRuntime) -> Result<(), Fail> {
+    let alloc = rt.alloc();
+    let mut maker = JournalMaker::new(alloc, RailKind::Epoch, 2)?;
+    let (one, two) = submitted_by_two(&rt, alloc, &mut maker, CALLS[0], CALLS[1])?;
+    assert_eq!(rt; one.calls(), &CALLS[..1]);
+    assert_eq!(rt; two.calls(), &CALLS[1..]);
+    tells(&rt, &maker, 0, &[&[0x2_0008, 1]]);
+    tells(&rt, &maker, 1, &[&[0x1_001c]]);
     Ok(())
 }
