@@ -136,10 +136,8 @@ impl<D: Machine, R: RailState<D>, H> Core<D, R, H> {
         let _rail = &self.rail;
     }
 
-    /// Issues a call, and gives its reply, which is written into client memory where the call wants it: None exactly where
-    /// the call asks for nothing (sections 2.5, 4.3.1 and 6.1). Only a call that waits meets the first NoMemory: a batch before
-    /// it failed, or the driver was refused memory at the call itself. After a refusal every later issue is refused and does
-    /// nothing; own.
+    /// Issues a call as `Front::issue` and `WaitFront::issue` do, and is refused where they are, for code that is written
+    /// once for both. It waits by `wait`, where `H` waits; own.
     pub fn issue_by<T: Threads + Sync, W>(
         &mut self,
         rt: &T,
@@ -205,7 +203,7 @@ impl<D: Machine, R: RailState<D>, H> Core<D, R, H> {
         reply
     }
 
-    /// Puts a call that doesn't wait into a batch. It takes no memory, and has no refusal; own.
+    /// Puts a call that doesn't wait into a batch.
     pub(crate) fn defer_by<T: Threads + Sync, W>(&mut self, rt: &T, wait: &W, call: &Call)
     where
         H: Reach<W, D, R>,
@@ -309,7 +307,7 @@ impl<D: Machine, R: RailState<D>, H> Core<D, R, H> {
         }
     }
 
-    /// Submits the open batch, unless it is empty; own.
+    /// Submits the open batch, unless it is empty.
     pub(crate) fn flush_by<T: Threads + Sync, W>(&mut self, rt: &T, wait: &W)
     where
         H: Reach<W, D, R>,
@@ -323,7 +321,7 @@ impl<D: Machine, R: RailState<D>, H> Core<D, R, H> {
         self.counts.batches += sent;
     }
 
-    /// Submits the open batch and waits until all are carried out. Refused only where one failed; own.
+    /// Submits the open batch and waits until all are carried out. Refused only where one failed.
     pub(crate) fn finish_by<T: Threads + Sync, W>(
         &mut self,
         rt: &T,

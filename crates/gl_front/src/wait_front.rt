@@ -19,7 +19,7 @@ use std::alloc::{AllocError as NoMemory, Global};
 use std::sync::Wait;
 use std::thread::Threads;
 
-/// A front over a rail whose calls may wait, with the same clauses as a [`Front`](crate::Front); own.
+/// A front over a rail whose calls may wait, with the clauses of a `Front`; own.
 pub type WaitFront<D, R> = Core<D, R, Waiting>;
 
 impl<D: WaitDriver, R: WaitRail<D>> Core<D, R, Waiting> {

@@ -8,6 +8,7 @@ ghost use Rattle.batch_rail.specs.Maker.{IsLaunched};
 ghost use Rattle.gl_front.specs.Front.{AllHaveRoom, CanRise, no_counts};
 ghost use Rattle.gl_front.specs.Taking.{KeepsCount};
 
+mod both;
 mod doubles;
 mod gets;
 mod waits;

@@ -46,7 +46,8 @@ pub fn run_lines<T: Threads + Sync, D: Driver, R: Rail<D>>(
     run_in_order(rt, &(), alloc, front, context, lines, results)
 }
 
-/// [`run_lines`] through a front that may wait, with the same clauses; own.
+/// Runs the lines of a context as [`run_lines`] does, through a front that may wait, with the same clauses: at most 262,144
+/// lines, and NoMemory stops at one; own.
 pub fn wait_run_lines<T: Threads + Sync, W: Wait, D: WaitDriver, R: WaitRail<D>>(
     rt: &T,
     wait: &W,

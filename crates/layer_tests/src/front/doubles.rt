@@ -5,11 +5,12 @@ ghost use Rattle.driver_trait.specs.Recording.{recorder_is_driver};
 
 use batch_pack::Batch;
 use batch_rail::{Rail, RailState};
-use driver_trait::{Driver, Machine, Recorder, Reply};
+use driver_trait::{Driver, Machine, Recorder, Reply, WaitDriver};
 use gl_memory::Memory;
 use gl_words::Call;
 use std::alloc::{AllocError, AllocError as NoMemory};
 use std::marker::Model;
+use std::sync::Wait;
 use std::thread::Threads;
 
 /// A recorder that is refused memory where it met as many calls as it has room for. It counts what it
@@ -48,7 +49,19 @@ impl Driver for Limited {
         if self.recorder.calls().len() >= self.room {
             return Err(AllocError);
         }
-        self.recorder.call(rt, call, memory)
+        Driver::call(&mut self.recorder, rt, call, memory)
+    }
+}
+
+impl WaitDriver for Limited {
+    fn call<T: Threads + Sync, W: Wait, M: Memory>(
+        &mut self,
+        rt: &T,
+        _wait: &W,
+        call: &Call,
+        memory: &M,
+    ) -> Result<Reply, NoMemory> {
+        Driver::call(self, rt, call, memory)
     }
 }
 
