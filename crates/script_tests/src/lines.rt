@@ -8,16 +8,18 @@ ghost use Rattle.driver_trait.specs.Recorder.{RecorderView};
 ghost use Rattle.gl_front.specs.Front.{no_counts};
 ghost use Rattle.replay_lines.specs.Limits.{IsSmall};
 
-use batch_rail::{InlineMaker, RailMaker};
+use batch_rail::{InlineMaker, RailMaker, WaitMaker, WaitPart};
 use driver_trait::{Recorder, Reply};
-use gl_front::Front;
+use gl_front::{Front, WaitFront};
 use gl_memory::{ClientMemory, Numbers, Octets};
 use gl_words::Call;
-use replay_lines::{Done, Printed, Results, What, run_lines};
+use replay_lines::{Done, Printed, Results, What, run_lines, wait_run_lines};
 use script_reader::{Act, Line, Name};
 use std::alloc::{AllocError, AllocError as NoMemory, Global};
 use std::process::Abort;
+use std::sync::Wait;
 use std::test::Fail;
+use std::thread::Threads;
 
 /// A rail of batches of 16 slots for context 1, over a recorder.
 fn rail_of_one<M: RailMaker<Recorder>>(alloc: Global, maker: &mut M) -> Result<M::Made, NoMemory>
@@ -48,6 +50,34 @@ fn front_of_one<M: RailMaker<Recorder>>(
         return Err(AllocError);
     };
     Ok(front)
+}
+
+/// Runs the lines of context 1 through a front that may wait, with four bytes of client memory, over a recorder. Gives what
+/// they told and the recorder.
+fn ran_waiting<T: Threads + Sync, W: Wait, M: WaitMaker<Recorder>>(
+    rt: &T,
+    wait: &W,
+    alloc: Global,
+    maker: &mut M,
+    lines: &[Line],
+) -> Result<(Results, Recorder), NoMemory>
+    requires few { length lines.now ≤ 262144 }
+    requires small { All IsSmall lines.now }
+{
+    let mut part = maker.split(1);
+    let Ok(rail) = part.launch(rt, wait, alloc, Recorder::new(alloc), 16, 1) else {
+        return Err(AllocError);
+    };
+    let memory = ClientMemory::new(alloc, 4)?;
+    let Ok(mut front) = WaitFront::new(alloc, rail, memory) else {
+        return Err(AllocError);
+    };
+    let mut results = Results::new(alloc);
+    wait_run_lines(rt, wait, alloc, &mut front, 1, lines, &mut results)?;
+    front.flush(rt, wait);
+    let (rail, _memory) = front.into_parts();
+    let driver = part.close(rt, wait, rail)?;
+    Ok((results, driver))
 }
 
 /// A line that makes a call.
@@ -162,6 +192,35 @@ fn lines_of_a_context_run_over_another_driver(rt: HostRuntime) -> Result<(), Fai
         panic!(rt; "a batch failed")
     };
     assert_eq!(rt; driver.calls(), [projection, Call::GetError].as_slice());
+    Ok(())
+}
+
+// As the test above, with a line that sends its batch; worked by hand.
+#[test]
+fn lines_of_a_context_run_through_a_front_that_may_wait(rt: HostRuntime) -> Result<(), Fail> {
+    let mut maker = InlineMaker::new();
+    let projection = Call::MatrixMode { mode: 0x1701 };
+    let mode = Call::GetIntegerv {
+        pname: 0x0BA0,
+        params: 0,
+    };
+    let lines = [
+        line(3, 1, projection),
+        line(4, 0, Call::LoadIdentity),
+        line(5, 1, Call::Flush),
+        line(6, 1, mode),
+        line(7, 1, Call::GetError),
+    ];
+    let (results, driver) = ran_waiting(&rt, &rt, rt.alloc(), &mut maker, lines.as_slice())?;
+    if results.len() != 2 {
+        panic!(rt; "two lines tell something")
+    }
+    is_answer(&rt, results.at(0), 6, mode, [5889].as_slice());
+    is_answer(&rt, results.at(1), 7, Call::GetError, &[]);
+    assert_eq!(rt;
+        driver.calls(),
+        [projection, Call::Flush, Call::GetError].as_slice()
+    );
     Ok(())
 }
 
