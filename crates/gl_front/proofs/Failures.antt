@@ -1,7 +1,6 @@
 -- By which batches a rail may have failed, said in two ways and after two steps.
-use Rattle.std.proofs.Common.{◌≡◌, ◌≢◌, ◌⊎◌, inl, inr, List, [], ◌∷◌, ◌++◌, refl, subst}
+use Rattle.std.proofs.Common.{◌≡◌, ◌≢◌, inl, inr, List, [], ◌∷◌, ◌++◌, refl, subst}
 use Rattle.batch_pack.specs.Spelling.{Spelled}
-use Rattle.client_shadow.specs.Cutting.{batch_unless_empty}
 use Rattle.gl_front.specs.Front.{FailsOnlyBy}
 
 -- the same batches, said in two ways
