@@ -8,7 +8,7 @@ use Rattle.driver_trait.specs.Driver.{Steps}
 use Rattle.gl_front.specs.Front.{FrontView, new_front}
 use Rattle.gl_front.specs.Taking.{Flushes}
 use Rattle.script_reader.specs.declared.script.Line.{Line}
-use Rattle.replay_lines.specs.Lines.{Ran, Standing, StepsThrough}
+use Rattle.replay_lines.specs.Lines.{Standing, StepsThrough}
 use Rattle.replay_lines.specs.Results.{DoneView}
 use Rattle.replay_lines.specs.Running.{RunsOn}
 use Rattle.example_driver.specs.Alone.{TellsAlone}

@@ -1,5 +1,5 @@
 -- What a driver tells of lines by itself; own. No rail, front or batch stands here.
-use Rattle.std.specs.Prelude.{◌≡◌, ℕ, List, map}
+use Rattle.std.specs.Prelude.{◌≡◌, List, map}
 use Rattle.gl_tracked.specs.declared.tracked.Tracked.{Tracked}
 use Rattle.driver_trait.specs.Driver.{Steps}
 use Rattle.script_reader.specs.declared.script.Line.{Line}

@@ -1,5 +1,5 @@
 -- The laws of drivers, as every driver that answers first keeps them, and as this one does.
-use Rattle.std.proofs.Common.{◌≡◌, ℤ, false, List, [], ◌∷◌, Option, Some, None, refl, sym, ap, subst, ◌∙◌}
+use Rattle.std.proofs.Common.{◌≡◌, ℤ, false, List, Option, Some, None, refl, sym, ap, subst, ◌∙◌}
 use Rattle.std.proofs.lemmas.Bool.{true≢false}
 use Rattle.gl_words.specs.Call.{is_answering}
 use Rattle.gl_words.specs.declared.call.Call.{Call}
@@ -11,7 +11,7 @@ use Rattle.gl_tracked.specs.Fault.{fault_of}
 use Rattle.gl_tracked.specs.Step.{tracked_after, number_asked}
 use Rattle.gl_tracked.proofs.Stepping.{tracked_after-memory, tracked_after-asked, number_asked-unanswered}
 use Rattle.driver_trait.specs.Driver.{IsDriver, ReadsAlone, Follows, Answers, Replies}
-use Rattle.driver_trait.specs.Reply.{Replied, Nothing, Numbers}
+use Rattle.driver_trait.specs.Reply.{Replied, Nothing}
 use Rattle.example_driver.specs.declared.counter.Counter.{Counter}
 use Rattle.example_driver.specs.AnswersFirst.{AnswersFirst, CarriesOut, LeadsTo}
 use Rattle.example_driver.specs.Counter.{CounterSteps, answer_of, clears_after, counter_after, counter_reply, counter_reply_to, recorded_after, tracked_of}

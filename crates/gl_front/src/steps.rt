@@ -122,12 +122,14 @@ pub fn put_off<H: Reach<W, D, R>, W, T: Threads + Sync, D: Machine, R: RailState
     ensures failed { FailsOnlyBy (R.failed rail.old) (R.failed rail.new)
         (ended_by Defer (R.size rail.old) (open_calls open_batch.old)
         (captured call.now pieces.now memory.now)) }
-    ensures calls { open_calls open_batch.new ≡ open_by Defer (R.size rail.old) (open_calls open_batch.old)
+    ensures calls { open_calls open_batch.new
+        ≡ open_by Defer (R.size rail.old) (open_calls open_batch.old)
         (captured call.now pieces.now memory.now) }
     ensures count { result ≡ length (ended_by Defer (R.size rail.old) (open_calls open_batch.old)
         (captured call.now pieces.now memory.now)) }
     ensures few { result ≤ 2 }
-    ensures stands { (st2 : D) → RunsFrom (R.stands rail.new) D.steps (open_calls open_batch.new) st2
+    ensures stands { (st2 : D)
+        → RunsFrom (R.stands rail.new) D.steps (open_calls open_batch.new) st2
         → RunsFrom (R.stands rail.old) D.steps
         (open_calls open_batch.old ++ captured call.now pieces.now memory.now ∷ []) st2 }
     ensures ready { IsReady (R.home rail.new) (R.size rail.new) open_batch.new }

@@ -1,8 +1,6 @@
-//! Tests of batches, of the shadow, of rails and of the front. Each file has those of one crate.
+//! Tests of batches, of the shadow and of rails. Each file has those of one crate.
 #![tactic(auto)]
 
-#[cfg(test)]
-mod front;
 #[cfg(test)]
 mod pack;
 #[cfg(test)]

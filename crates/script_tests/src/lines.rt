@@ -12,7 +12,7 @@ use batch_rail::{InlineMaker, RailMaker, WaitMaker, WaitPart};
 use driver_trait::{Recorder, Reply};
 use gl_front::{Front, WaitFront};
 use gl_memory::{ClientMemory, Numbers, Octets};
-use gl_words::Call;
+use gl_words::{Call, is_answering};
 use replay_lines::{Done, Printed, Results, What, run_lines, wait_run_lines};
 use script_reader::{Act, Line, Name};
 use std::alloc::{AllocError, AllocError as NoMemory, Global};
@@ -269,6 +269,14 @@ fn bytes_past_the_end_of_memory_are_dropped(rt: HostRuntime) -> Result<(), Fail>
     Ok(())
 }
 
+/// Adds what a call of context 1 told that asks for something.
+fn answer(results: &mut Results, number: u32, call: &Call, reply: Reply) -> Result<(), NoMemory> {
+    if is_answering(call) {
+        results.answer(number, 1, call, reply)?;
+    }
+    Ok(())
+}
+
 // Of ReadPixels the count of bytes is told, of other calls the numbers; worked by hand.
 #[test]
 fn each_reply_has_its_numbers(rt: HostRuntime) -> Result<(), Fail> {
@@ -286,10 +294,10 @@ fn each_reply_has_its_numbers(rt: HostRuntime) -> Result<(), Fail> {
         pixels: 0,
     };
     let mut results = Results::new(alloc);
-    results.answer(4, 1, &Call::GetError, Reply::Numbers(numbers))?;
-    results.answer(6, 1, &read, Reply::Bytes(octets(alloc, [0; 8])?))?;
-    results.answer(7, 1, &read, Reply::Nothing)?;
-    results.answer(8, 1, &Call::GetError, Reply::One(1280))?;
+    answer(&mut results, 4, &Call::GetError, Reply::Numbers(numbers))?;
+    answer(&mut results, 6, &read, Reply::Bytes(octets(alloc, [0; 8])?))?;
+    answer(&mut results, 7, &read, Reply::Nothing)?;
+    answer(&mut results, 8, &Call::GetError, Reply::One(1280))?;
     let rows: [(usize, u32, Call, &[i64]); 4] = [
         (0, 4, Call::GetError, &[7, -1]),
         (1, 6, read, &[8]),

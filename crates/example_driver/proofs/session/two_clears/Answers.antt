@@ -1,4 +1,4 @@
-use Rattle.std.proofs.Common.{◌≡◌, true, None, pos, List, [], ◌∷◌, Option, ap, subst, ◌∙◌}
+use Rattle.std.proofs.Common.{◌≡◌, true, None, pos, [], ◌∷◌, Option, ap, subst, ◌∙◌}
 use Rattle.std.specs.Prelude.{IsSome}
 use Rattle.gl_words.specs.declared.call.Call.TheVariants.{GetIntegerv}
 use Rattle.gl_tracked.specs.declared.tracked.Tracked.{Tracked}
@@ -7,7 +7,6 @@ use Rattle.driver_trait.specs.Reply.{Replied, Numbers, replied}
 use Rattle.gl_front.specs.Front.{FrontView}
 use Rattle.gl_front.specs.Given.{given_by}
 use Rattle.gl_front.specs.Taking.{TakesCall}
-use Rattle.batch_pack.specs.Spelling.{Spelled}
 use Rattle.batch_rail.specs.Maker.{IsLaunched}
 use Rattle.batch_rail.specs.Rail.{HasDriver}
 use Rattle.batch_rail.specs.declared.inline.InlineRail.{InlineRail}

@@ -1,0 +1,5 @@
+//! Tests of the front.
+#![tactic(auto)]
+
+#[cfg(test)]
+mod front;

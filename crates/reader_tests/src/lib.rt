@@ -1,0 +1,5 @@
+//! Tests of scripts as they are read.
+#![tactic(auto)]
+
+#[cfg(test)]
+mod reader;
