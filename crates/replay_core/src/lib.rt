@@ -10,9 +10,9 @@ mod run;
 #[cfg(test)]
 mod tests;
 mod top;
+mod ways;
 
 pub use image::{ImageFile, files, frame_file};
 pub use plain::{DirectRun, direct};
-pub use rail::{RailRun, run_script};
 pub use reporting::{direct_report, report};
-pub use top::replay_alone;
+pub use top::{replay, replay_alone};

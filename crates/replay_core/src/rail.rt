@@ -17,11 +17,12 @@ ghost use Rattle.replay_core.specs.Report.{counted};
 ghost use Rattle.replay_core.specs.Script.{IsOneContext, seen_script};
 
 use crate::plain::only_context;
-use batch_rail::{Rail, RailMaker};
-use driver_trait::Driver;
-use gl_front::{Counts, Front};
+use crate::ways::{Lends, Runs};
+use batch_rail::RailState;
+use driver_trait::Machine;
+use gl_front::Counts;
 use gl_memory::ClientMemory;
-use replay_lines::{Results, run_lines};
+use replay_lines::Results;
 use script_reader::{Line, Script};
 use soft_driver::Soft;
 use std::alloc::{AllocError as NoMemory, Global};
@@ -35,12 +36,19 @@ pub struct RailRun {
     pub soft: Soft,
 }
 
-/// Runs a script's context, of this number, over a rail of this maker, in batches of so many slots. The rail is closed
-/// on every way out; own.
-pub fn run_script<T: Threads + Sync, R: RailMaker<Soft>>(
+/// Runs a script's context, of this number, over a rail of this maker, in batches of so many slots. The rail is had as `H`
+/// has it, and is closed on every way out; own.
+pub(crate) fn run_script<
+    H: Runs<W, Soft, R> + Lends<W, Soft, R, M>,
+    W,
+    T: Threads + Sync,
+    R: RailState<Soft>,
+    M,
+>(
     rt: &T,
+    wait: &W,
     alloc: Global,
-    rails: &mut R,
+    rails: &mut M,
     batch: u32,
     ring: u32,
     context: u32,
@@ -60,19 +68,27 @@ pub fn run_script<T: Threads + Sync, R: RailMaker<Soft>>(
         ≡ tally_of batch (calls_of batch context (seen_script script.now))) }
     ensures journal { OnOk result
         (HandsOver context (batches_of batch context (seen_script script.now))
-        (R.journal rails.old) (R.journal rails.new)) }
+        (H.journal rails.old) (H.journal rails.new)) }
     ensures stopped { OnErr result
-        (HandsOverSome context (R.journal rails.old) (R.journal rails.new)) }
+        (HandsOverSome context (H.journal rails.old) (H.journal rails.new)) }
 {
     let sides = only_context(script);
     let memory = ClientMemory::new(alloc, sides.memory)?;
     let driver = Soft::new(alloc, context, sides.width, sides.height)?;
-    let rail = match rails.launch(alloc, context, driver, batch, ring) {
-        Ok(rail) => rail,
+    let (part, rail) = match H::launch(rails, rt, wait, alloc, context, driver, batch, ring) {
+        Ok(lent) => lent,
         Err((_driver, refusal)) => return Err(refusal),
     };
-    let (ran, rail) = run_over(rt, alloc, rail, memory, context, script.lines.as_slice());
-    let closed = rails.close(context, rail);
+    let (ran, rail) = run_over::<H, W, T, Soft, R>(
+        rt,
+        wait,
+        alloc,
+        rail,
+        memory,
+        context,
+        script.lines.as_slice(),
+    );
+    let closed = H::close(rails, rt, wait, context, part, rail);
     let LinesRun { results, counts } = ran?;
     let soft = closed?;
     Ok(RailRun {
@@ -91,8 +107,9 @@ pub(crate) struct LinesRun {
 
 /// Runs the lines of a context over a rail, through a front that is made for them. The rail is given back on every way
 /// out, with no batch open.
-pub(crate) fn run_over<T: Threads + Sync, D: Driver, R: Rail<D>>(
+pub(crate) fn run_over<H: Runs<W, D, R>, W, T: Threads + Sync, D: Machine, R: RailState<D>>(
     rt: &T,
+    wait: &W,
     alloc: Global,
     rail: R,
     memory: ClientMemory,
@@ -110,13 +127,13 @@ pub(crate) fn run_over<T: Threads + Sync, D: Driver, R: Rail<D>>(
         (lines_in context lines.now) ran.results ran.counts) }
     ensures stopped { OnErr result.0 (GainsSome (R.journal rail) (R.journal result.1)) }
 {
-    let mut front = match Front::new(alloc, rail, memory) {
+    let mut front = match H::front(alloc, rail, memory) {
         Ok(front) => front,
         Err((rail, _memory, refusal)) => return (Err(refusal), rail),
     };
     let mut results = Results::new(alloc);
-    let ran = run_lines(rt, alloc, &mut front, context, lines, &mut results);
-    front.flush(rt);
+    let ran = H::run(&mut front, rt, wait, alloc, context, lines, &mut results);
+    H::flush(&mut front, rt, wait);
     let counts = front.counts();
     let (rail, _memory) = front.into_parts();
     match ran {

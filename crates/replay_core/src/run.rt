@@ -16,7 +16,8 @@ use crate::image::{ImageFile, files, frame_file};
 use crate::plain::{DirectRun, direct};
 use crate::rail::{RailRun, run_script};
 use crate::reporting::{direct_report, report};
-use batch_rail::RailMaker;
+use crate::ways::{Lends, Runs};
+use batch_rail::RailState;
 use gl_front::Counts;
 use replay_lines::Results;
 use replay_text::{Command, Text};
@@ -32,12 +33,19 @@ pub struct Output {
     pub report: Text,
 }
 
-/// Carries out a command on a script's context, of this number.
+/// Carries out a command on a script's context, of this number. A rail is had as `H` has it.
 #[tactic(auto, using(crate::proofs::JournalLemmas::hands_over_none))]
-pub fn run_command<T: Threads + Sync, R: RailMaker<Soft>>(
+pub(crate) fn run_command<
+    H: Runs<W, Soft, R> + Lends<W, Soft, R, M>,
+    W,
+    T: Threads + Sync,
+    R: RailState<Soft>,
+    M,
+>(
     rt: &T,
+    wait: &W,
     alloc: Global,
-    rails: &mut R,
+    rails: &mut M,
     asked: Command,
     context: u32,
     script: &Script,
@@ -54,9 +62,9 @@ pub fn run_command<T: Threads + Sync, R: RailMaker<Soft>>(
     ensures direct { asked ≡ Direct → rails.new ≡ rails.old }
     ensures journal { OnOk result
         (HandsOver context (batches_for asked context (seen_script script.now))
-        (R.journal rails.old) (R.journal rails.new)) }
+        (H.journal rails.old) (H.journal rails.new)) }
     ensures stopped { OnErr result
-        (HandsOverSome context (R.journal rails.old) (R.journal rails.new)) }
+        (HandsOverSome context (H.journal rails.old) (H.journal rails.new)) }
 {
     match asked {
         Command::Run { batch, ring, .. } => {
@@ -64,7 +72,7 @@ pub fn run_command<T: Threads + Sync, R: RailMaker<Soft>>(
                 results,
                 counts,
                 soft,
-            } = run_script(rt, alloc, rails, batch, ring, context, script)?;
+            } = run_script::<H, W, T, R, M>(rt, wait, alloc, rails, batch, ring, context, script)?;
             let images = images(alloc, context, script, &results, soft)?;
             let report = report_of_run(alloc, asked, context, script, &results, &counts, &images)?;
             Ok(Output { images, report })

@@ -12,7 +12,7 @@ ghost use Rattle.script_reader.specs.Limits.{IsLine};
 use crate::plain::{Plain, Shows};
 use crate::rail::run_over;
 use batch_rail::{InlineMaker, RailMaker};
-use driver_trait::{Driver, Machine, Reply};
+use driver_trait::{Driver, Machine, Plainly, Reply};
 use gl_memory::{ClientMemory, Memory};
 use gl_tracked::Tracked;
 use gl_words::Call;
@@ -128,7 +128,15 @@ fn asked_over<T: Threads + Sync, M: RailMaker<Counting>>(
     let Ok(rail) = maker.launch(alloc, 2, Counting::new(alloc)?, 16, 1) else {
         return Ok(None);
     };
-    let (ran, rail) = run_over(rt, alloc, rail, memory, 2, lines().as_slice());
+    let (ran, rail) = run_over::<Plainly, (), T, Counting, M::Made>(
+        rt,
+        &(),
+        alloc,
+        rail,
+        memory,
+        2,
+        lines().as_slice(),
+    );
     let driver = maker.close(2, rail)?;
     if ran.is_err() {
         return Ok(None);

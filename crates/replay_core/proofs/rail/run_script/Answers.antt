@@ -16,26 +16,29 @@ use Rattle.replay_core.proofs.rail.run_script.Goals as goal
 
 pub run_over-ran-requires-clause-launched : goal.run_over-ran-requires-clause-launched
 run_over-ran-requires-clause-launched g c κs live =
-    subst (λ (first : Tracked). IsLaunched own_tracked (g.R.Made.RailState.stands c.in-Ok.rail) (g.R.Made.RailState.failed c.in-Ok.rail) (g.R.Made.RailState.home c.in-Ok.rail) (g.R.Made.RailState.size c.in-Ok.rail) first)
+    subst (λ (first : Tracked). IsLaunched own_tracked (g.R.RailState.stands c.in-Ok.lent.1) (g.R.RailState.failed c.in-Ok.lent.1) (g.R.RailState.home c.in-Ok.lent.1) (g.R.RailState.size c.in-Ok.lent.1) first)
     (ap own_tracked c.in_ok-driver.ensures ∙ first_own-tracked c.args.context c.only_context-sides.result.width c.only_context-sides.result.height)
     c.in-Ok.ensures.ok
 
+pub returns-in_err-memory-clause-stopped : goal.returns-in_err-memory-clause-stopped
+returns-in_err-memory-clause-stopped g c = OnErr-always c.from_residual.result (hands_over_none c.args.context (g.H.Lends.journal c.args.rails.now))
+
 pub returns-in_err-driver-clause-stopped : goal.returns-in_err-driver-clause-stopped
-returns-in_err-driver-clause-stopped g c = OnErr-always c.from_residual-in_err-driver.result (hands_over_none c.args.context (g.R.RailMaker.journal c.args.rails.now))
+returns-in_err-driver-clause-stopped g c = OnErr-always c.from_residual-in_err-driver.result (hands_over_none c.args.context (g.H.Lends.journal c.args.rails.now))
 
 -- what a run over the rail came to
-ended : (g : Rattle.replay_core.proofs.rail.run_script.Given.Over) (c : goal.In_ok-soft g) → RanToEnd c.args.context (seen_script c.args.script.now) c.args.batch c.in_ok-soft.soft c.in_ok-results.field-0.results c.in_ok-results.field-0.counts (g.R.Made.RailState.journal c.in-Ok.rail) (g.R.Made.RailState.journal c.run_over-ran.result.1)
+ended : (g : Rattle.replay_core.proofs.rail.run_script.Given.Over) (c : goal.In_ok-soft g) → RanToEnd c.args.context (seen_script c.args.script.now) c.args.batch c.in_ok-soft.soft c.in_ok-results.field-0.results c.in_ok-results.field-0.counts (g.R.RailState.journal c.in-Ok.lent.1) (g.R.RailState.journal c.run_over-ran.result.1)
 ended g c =
-    let stands = g.R.Made.RailState.stands in
-    let tells = g.R.Made.RailState.journal in
+    let stands = g.R.RailState.stands in
+    let tells = g.R.RailState.journal in
     let sides = c.only_context-sides.ensures.context in
     let lines = c.as_slice.result.now in
-    let over : ℕ → LinesRun → Type 0 = λ size ran. RunsOver own_tracked OwnSteps stands tells (record { size = size; memory = c.in_ok-memory.memory; launched = c.in-Ok.rail; back = c.run_over-ran.result.1 }) (lines_in c.args.context lines) ran.results ran.counts in
-    let run = if_ok (over (g.R.Made.RailState.size c.in-Ok.rail)) c.run_over-ran.result.0 c.in_ok-results.field-0 c.in_ok-results.was c.run_over-ran.ensures.ok in
+    let over : ℕ → LinesRun → Type 0 = λ size ran. RunsOver own_tracked OwnSteps stands tells (record { size = size; memory = c.in_ok-memory.memory; launched = c.in-Ok.lent.1; back = c.run_over-ran.result.1 }) (lines_in c.args.context lines) ran.results ran.counts in
+    let run = if_ok (over (g.R.RailState.size c.in-Ok.lent.1)) c.run_over-ran.result.0 c.in_ok-results.field-0 c.in_ok-results.was c.run_over-ran.ensures.ok in
     ran_to_end c.args.context (seen_script c.args.script.now) c.in_ok-driver.driver c.in_ok-memory.memory lines
     (c.in_ok-driver.ensures ∙ ap (λ (k : ContextSpec). first_own c.args.context k.width k.height) sides)
     (c.in_ok-memory.ensures.ok ∙ ap (λ (k : ContextSpec). replicate k.memory 0) sides)
-    c.as_slice.ensures stands tells c.args.batch c.in-Ok.rail c.run_over-ran.result.1 c.in_ok-results.field-0.results c.in_ok-results.field-0.counts c.in_ok-soft.soft
+    c.as_slice.ensures stands tells c.args.batch c.in-Ok.lent.1 c.run_over-ran.result.1 c.in_ok-results.field-0.results c.in_ok-results.field-0.counts c.in_ok-soft.soft
     (subst (λ (size : ℕ). over size c.in_ok-results.field-0) c.in-Ok.ensures.unused.of_size run) c.in-Ok.ensures.unused.only c.in_ok-soft.ensures.ok
 
 pub returns-clause-told : goal.returns-clause-told
@@ -49,26 +52,26 @@ returns-clause-counts g c = (ended g c).all_counted
 
 pub returns-clause-journal : goal.returns-clause-journal
 returns-clause-journal g c =
-    let journal = g.R.RailMaker.journal in
-    hands_over c.args.context (journal c.args.rails.now) (journal c.launch.new.self) (journal c.close-closed.new.self) c.in-Ok.ensures.others c.close-closed.ensures.others
-    (g.R.Made.RailState.journal c.in-Ok.rail) (g.R.Made.RailState.journal c.run_over-ran.result.1) _ c.in-Ok.ensures.told (ended g c).handed_over c.close-closed.ensures.told
+    let journal = g.H.Lends.journal in
+    hands_over c.args.context (journal c.args.rails.now) (journal c.launch.new.maker) (journal c.close-closed.new.maker) c.in-Ok.ensures.others c.close-closed.ensures.others
+    (g.R.RailState.journal c.in-Ok.lent.1) (g.R.RailState.journal c.run_over-ran.result.1) _ c.in-Ok.ensures.told (ended g c).handed_over c.close-closed.ensures.told
 
 pub returns-in_err-results-clause-stopped : goal.returns-in_err-results-clause-stopped
 returns-in_err-results-clause-stopped g c =
-    let journal = g.R.RailMaker.journal in
-    let tells = g.R.Made.RailState.journal in
+    let journal = g.H.Lends.journal in
+    let tells = g.R.RailState.journal in
     OnErr-always c.from_residual-in_err-results.result
-    (hands_over_some c.args.context (journal c.args.rails.now) (journal c.launch.new.self) (journal c.close-closed.new.self) c.in-Ok.ensures.others c.close-closed.ensures.others
-    (tells c.in-Ok.rail) (tells c.run_over-ran.result.1) c.in-Ok.ensures.told
-    (on_err (GainsSome (tells c.in-Ok.rail) (tells c.run_over-ran.result.1)) c.run_over-ran.result.0 _ c.in_err-results.was c.run_over-ran.ensures.stopped) c.close-closed.ensures.told)
+    (hands_over_some c.args.context (journal c.args.rails.now) (journal c.launch.new.maker) (journal c.close-closed.new.maker) c.in-Ok.ensures.others c.close-closed.ensures.others
+    (tells c.in-Ok.lent.1) (tells c.run_over-ran.result.1) c.in-Ok.ensures.told
+    (on_err (GainsSome (tells c.in-Ok.lent.1) (tells c.run_over-ran.result.1)) c.run_over-ran.result.0 _ c.in_err-results.was c.run_over-ran.ensures.stopped) c.close-closed.ensures.told)
 
 pub returns-in_err-soft-clause-stopped : goal.returns-in_err-soft-clause-stopped
 returns-in_err-soft-clause-stopped g c =
-    let journal = g.R.RailMaker.journal in
-    let stands = g.R.Made.RailState.stands in
-    let tells = g.R.Made.RailState.journal in
-    let over : LinesRun → Type 0 = λ ran. RunsOver own_tracked OwnSteps stands tells (record { size = g.R.Made.RailState.size c.in-Ok.rail; memory = c.in_ok-memory.memory; launched = c.in-Ok.rail; back = c.run_over-ran.result.1 }) (lines_in c.args.context c.as_slice.result.now) ran.results ran.counts in
+    let journal = g.H.Lends.journal in
+    let stands = g.R.RailState.stands in
+    let tells = g.R.RailState.journal in
+    let over : LinesRun → Type 0 = λ ran. RunsOver own_tracked OwnSteps stands tells (record { size = g.R.RailState.size c.in-Ok.lent.1; memory = c.in_ok-memory.memory; launched = c.in-Ok.lent.1; back = c.run_over-ran.result.1 }) (lines_in c.args.context c.as_slice.result.now) ran.results ran.counts in
     let run = if_ok over c.run_over-ran.result.0 c.in_ok-results.field-0 c.in_ok-results.was c.run_over-ran.ensures.ok in
     OnErr-always c.from_residual-in_err-soft.result
-    (hands_over_some c.args.context (journal c.args.rails.now) (journal c.launch.new.self) (journal c.close-closed.new.self) c.in-Ok.ensures.others c.close-closed.ensures.others
-    (tells c.in-Ok.rail) (tells c.run_over-ran.result.1) c.in-Ok.ensures.told (_, run.handed_over) c.close-closed.ensures.told)
+    (hands_over_some c.args.context (journal c.args.rails.now) (journal c.launch.new.maker) (journal c.close-closed.new.maker) c.in-Ok.ensures.others c.close-closed.ensures.others
+    (tells c.in-Ok.lent.1) (tells c.run_over-ran.result.1) c.in-Ok.ensures.told (_, run.handed_over) c.close-closed.ensures.told)
