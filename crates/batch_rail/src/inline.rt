@@ -9,7 +9,7 @@ ghost use Rattle.batch_rail.specs.Rail.{HasDriver, Gains, StandsForNoMore};
 ghost use Rattle.batch_rail.specs.Maker.{IsRingLength, KeepsOthers, IsLaunched, IsUnused};
 
 use crate::maker::{RailKind, RailMaker};
-use crate::part::{WaitMaker, WaitPart};
+use crate::part::{RailLender, RailUser, WaitMaker, WaitPart};
 use crate::rail::{Rail, RailState, WaitRail};
 use crate::run::run_batch;
 use batch_pack::Batch;
@@ -295,10 +295,33 @@ impl<D: WaitDriver> WaitMaker<D> for InlineMaker {
 #[derive(Drop)]
 pub struct InlinePart;
 
+impl<D: WaitDriver> RailLender<D> for InlinePart {
+    ghost journal = { λ part. None };
+
+    fn with_rail<T: Threads + Sync, W: Wait, U: RailUser<D>>(
+        &mut self,
+        rt: &T,
+        wait: &W,
+        alloc: Global,
+        driver: D,
+        slots: u32,
+        ring: u32,
+        user: U,
+    ) -> Result<(D, U::Out), NoMemory> {
+        let rail = match self.launch(rt, wait, alloc, driver, slots, ring) {
+            Ok(rail) => rail,
+            Err((_driver, refusal)) => return Err(refusal),
+        };
+        let (rail, used) = user.use_rail(rt, wait, alloc, rail, slots);
+        let closed = self.close(rt, wait, rail);
+        let out = used?;
+        let driver = closed?;
+        Ok((driver, out))
+    }
+}
+
 impl<D: WaitDriver> WaitPart<D> for InlinePart {
     type Made = InlineRail<D>;
-
-    ghost journal = { λ part. None };
 
     fn launch<T: Threads + Sync, W: Wait>(
         &mut self,

@@ -10,7 +10,7 @@ use crate::batches::Batches;
 use crate::journal::Journal;
 use crate::kept::JournalRail;
 use crate::maker::{RailKind, RailMaker};
-use crate::part::{WaitMaker, WaitPart};
+use crate::part::{RailLender, RailUser, WaitMaker, WaitPart};
 use driver_trait::{Driver, WaitDriver};
 use std::alloc::{AllocError as NoMemory, Global};
 use std::marker::Model;
@@ -195,10 +195,33 @@ impl Model for JournalPart {
     ghost view = { λ p. p.journal };
 }
 
+impl<D: WaitDriver> RailLender<D> for JournalPart {
+    ghost journal = { λ part. told_by part };
+
+    fn with_rail<T: Threads + Sync, W: Wait, U: RailUser<D>>(
+        &mut self,
+        rt: &T,
+        wait: &W,
+        alloc: Global,
+        driver: D,
+        slots: u32,
+        ring: u32,
+        user: U,
+    ) -> Result<(D, U::Out), NoMemory> {
+        let rail = match self.launch(rt, wait, alloc, driver, slots, ring) {
+            Ok(rail) => rail,
+            Err((_driver, refusal)) => return Err(refusal),
+        };
+        let (rail, used) = user.use_rail(rt, wait, alloc, rail, slots);
+        let closed = self.close(rt, wait, rail);
+        let out = used?;
+        let driver = closed?;
+        Ok((driver, out))
+    }
+}
+
 impl<D: WaitDriver> WaitPart<D> for JournalPart {
     type Made = JournalRail<D>;
-
-    ghost journal = { λ part. told_by part };
 
     fn launch<T: Threads + Sync, W: Wait>(
         &mut self,

@@ -17,6 +17,6 @@ pub use inline::{InlineMaker, InlinePart, InlineRail};
 pub use kept::JournalRail;
 pub use kept_maker::{JournalMaker, JournalPart};
 pub use maker::{RailKind, RailMaker};
-pub use part::{RailUser, WaitMaker, WaitPart};
+pub use part::{RailLender, RailUser, WaitMaker, WaitPart};
 pub use rail::{Rail, RailState, WaitRail};
 pub use run::run_batch;

@@ -46,13 +46,38 @@ pub trait RailUser<D: WaitDriver>: Drop {
         ensures err { OnErr result.1 (GainsSome (R.journal rail) (R.journal result.0)) };
 }
 
+/// What has a rail for a user, and keeps its batches; own. Nothing is said of the rail's type, which may be one that
+/// stays in one place: so a closure that is to run in another thread may be generic over a lender, and not over a part.
+pub trait RailLender<D: WaitDriver>: Drop {
+    /// The batches of its context, where it tells them.
+    ghost journal: { Self → Option (List (List Spelled)) };
+
+    /// Launches a rail, has it used, and closes it on every way out. Gives the driver, and what its user gives.
+    fn with_rail<T: Threads + Sync, W: Wait, U: RailUser<D>>(
+        &mut self,
+        rt: &T,
+        wait: &W,
+        alloc: Global,
+        driver: D,
+        slots: u32,
+        ring: u32,
+        user: U,
+    ) -> Result<(D, U::Out), NoMemory>
+        requires shared { IsSync T.row }
+        requires slots { IsBatchSize slots }
+        requires ring { IsRingLength ring }
+        requires ready { U.ready user slots driver }
+        ensures ok { IfOk result (λ given. IsUsed (U.leads user slots given.1)
+            (λ st. st ≡ driver) (λ st. st ≡ given.0) (Self.journal self.old)
+            (Self.journal self.new)) }
+        ensures err { OnErr result
+            (GainsSome (Self.journal self.old) (Self.journal self.new)) };
+}
+
 /// Makes the rails of one context; own. It may move to that context's thread.
-pub trait WaitPart<D: WaitDriver>: Drop {
+pub trait WaitPart<D: WaitDriver>: RailLender<D> {
     /// Its rails.
     type Made: WaitRail<D> + Drop;
-
-    /// The batches of its context, where the part tells them.
-    ghost journal: { Self → Option (List (List Spelled)) };
 
     /// A rail that stands for this driver, as a front takes it where the driver is one of a new context. Batches have 16
     /// to 8192 slots of eight bytes, a ring has 1 to 64 batches. Want of memory gives the driver back. No clause says
@@ -92,39 +117,6 @@ pub trait WaitPart<D: WaitDriver>: Drop {
         ensures ok { IfOk result (λ driver. Self.Made.stands rail driver) }
         ensures err { OnErr result (Self.Made.failed rail) }
         ensures told { Gains (Self.Made.journal rail) (Self.journal self.new) [] };
-
-    /// Launches a rail, has it used, and closes it on every way out. Gives the driver, and what its user gives. A part
-    /// whose rail stays in one place, as one beside a handle that it borrows, writes it anew.
-    fn with_rail<T: Threads + Sync, W: Wait, U: RailUser<D>>(
-        &mut self,
-        rt: &T,
-        wait: &W,
-        alloc: Global,
-        driver: D,
-        slots: u32,
-        ring: u32,
-        user: U,
-    ) -> Result<(D, U::Out), NoMemory>
-        requires shared { IsSync T.row }
-        requires slots { IsBatchSize slots }
-        requires ring { IsRingLength ring }
-        requires ready { U.ready user slots driver }
-        ensures ok { IfOk result (λ given. IsUsed (U.leads user slots given.1)
-            (λ st. st ≡ driver) (λ st. st ≡ given.0) (Self.journal self.old)
-            (Self.journal self.new)) }
-        ensures err { OnErr result
-            (GainsSome (Self.journal self.old) (Self.journal self.new)) }
-    {
-        let rail = match self.launch(rt, wait, alloc, driver, slots, ring) {
-            Ok(rail) => rail,
-            Err((_driver, refusal)) => return Err(refusal),
-        };
-        let (rail, used) = user.use_rail(rt, wait, alloc, rail, slots);
-        let closed = self.close(rt, wait, rail);
-        let out = used?;
-        let driver = closed?;
-        Ok((driver, out))
-    }
 }
 
 /// Makes rails for the contexts 0 to 3, by a part for each; own.

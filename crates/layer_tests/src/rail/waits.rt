@@ -1,12 +1,14 @@
 //! The rails without threads in the form that may wait, by the parts of their makers.
 
-ghost use Rattle.std.specs.Prelude.{◌≡◌, [], ◌∷◌};
+ghost use Rattle.std.specs.Prelude.{◌≡◌, [], ◌∷◌, IfOk};
 ghost use Rattle.driver_trait.specs.Recorder.{RecorderSteps};
 ghost use Rattle.batch_rail.specs.Run.{Run};
 
 use super::tells;
 use batch_pack::Batch;
-use batch_rail::{InlineMaker, JournalMaker, RailKind, RailUser, WaitMaker, WaitPart, WaitRail};
+use batch_rail::{
+    InlineMaker, JournalMaker, RailKind, RailLender, RailUser, WaitMaker, WaitPart, WaitRail,
+};
 use driver_trait::Recorder;
 use gl_memory::{ClientMemory, Pieces};
 use gl_words::Call;
@@ -89,62 +91,54 @@ impl RailUser<Recorder> for Submitting {
     }
 }
 
-/// Has a batch of one call submitted by a part, in one call.
-fn submitted<T: Threads + Sync, W: Wait, P: WaitPart<Recorder>>(
-    rt: &T,
-    wait: &W,
-    alloc: Global,
-    part: &mut P,
-    call: &Call,
-) -> Result<(Recorder, u64), NoMemory> {
+/// What a part gives back, with the recorder that it was lent a rail for, and how many batches were sent.
+type Lent<P> = (P, Result<(Recorder, u64), NoMemory>);
+
+/// A batch of one call, for a user of a rail.
+fn user_of(alloc: Global, call: &Call) -> Result<Submitting, NoMemory>
+    ensures { IfOk result (λ user. user.batch.size ≡ 16) }
+{
     let memory = ClientMemory::new(alloc, 0)?;
     let mut batch = Batch::new(alloc, 16)?;
     if batch.try_pack(call, &Pieces::new(), &memory).is_err() {
         return Err(AllocError);
     }
-    part.with_rail(
-        rt,
-        wait,
-        alloc,
-        Recorder::new(alloc),
-        16,
-        4,
-        Submitting { batch },
-    )
+    Ok(Submitting { batch })
 }
 
-/// What a part gives back, with what came of its context.
-type Back<P> = (P, Result<(Recorder, u64), NoMemory>);
-
-/// The same by a part that moves to the thread that calls this, and comes back.
-fn submitted_there<T: Threads + Wait + Sync, P: WaitPart<Recorder>>(
+/// Has a call submitted in a batch of its own, by a part in whichever thread this is.
+fn submitted<T: Threads + Wait + Sync, P: RailLender<Recorder>>(
     rt: &T,
     alloc: Global,
     part: P,
     call: Call,
-) -> Back<P> {
+) -> Lent<P> {
+    let user = match user_of(alloc, &call) {
+        Ok(user) => user,
+        Err(refusal) => return (part, Err(refusal)),
+    };
     let mut part = part;
-    let done = submitted(rt, rt, alloc, &mut part, &call);
-    (part, done)
+    let lent = part.with_rail(rt, rt, alloc, Recorder::new(alloc), 16, 4, user);
+    (part, lent)
 }
 
 /// Two contexts at once, each by its part in a thread of its own.
-fn in_two_threads<T: Threads + Wait + Sync, P: WaitPart<Recorder> + Send>(
+fn in_two_threads<T: Threads + Wait + Sync, P: RailLender<Recorder> + Send>(
     rt: &T,
     alloc: Global,
     one: P,
     two: P,
     first: Call,
     second: Call,
-) -> (Back<P>, Back<P>) {
+) -> (Lent<P>, Lent<P>) {
     join(
         rt,
-        || submitted_there(rt, alloc, one, first),
-        || submitted_there(rt, alloc, two, second),
+        || submitted(rt, alloc, one, first),
+        || submitted(rt, alloc, two, second),
     )
 }
 
-/// Two contexts of this maker at once.
+/// The contexts 0 and 1 of this maker at once, and their recorders.
 fn submitted_by_two<T: Threads + Wait + Sync, M: WaitMaker<Recorder>>(
     rt: &T,
     alloc: Global,
@@ -171,11 +165,6 @@ fn a_part_makes_a_rail_that_carries_out_what_was_submitted(rt: HostRuntime) -> R
     let (driver, sent) = carried_out_by_a_part(&rt, &rt, alloc, &mut maker, &CALLS[0], &CALLS[1])?;
     assert_eq!(rt; driver.calls(), CALLS.as_slice());
     assert_eq!(rt; sent, 3);
-    let mut part = WaitMaker::<Recorder>::split(&mut maker, 0);
-    let (driver, sent) = submitted(&rt, &rt, alloc, &mut part, &CALLS[0])?;
-    assert_eq!(rt; driver.calls(), &CALLS[..1]);
-    assert_eq!(rt; sent, 1);
-    WaitMaker::<Recorder>::join(&mut maker, 0, part);
     Ok(())
 }
 
@@ -190,10 +179,11 @@ fn a_part_has_what_is_told_of_its_context_until_it_is_back(rt: HostRuntime) -> R
     assert_eq!(rt; driver.calls(), CALLS.as_slice());
     assert_eq!(rt; sent, 3);
     tells(&rt, &maker, 3, &[&[0x2_0008, 1], &[], &[0x1_001c]]);
-    let mut part = WaitMaker::<Recorder>::split(&mut maker, 3);
+    let part = WaitMaker::<Recorder>::split(&mut maker, 3);
     assert!(rt; maker.journal(3).is_none(), "the part has the list");
     tells(&rt, &maker, 2, &[]);
-    let (driver, sent) = submitted(&rt, &rt, alloc, &mut part, &CALLS[0])?;
+    let (part, lent) = submitted(&rt, alloc, part, CALLS[0]);
+    let (driver, sent) = lent?;
     assert_eq!(rt; driver.calls(), &CALLS[..1]);
     assert_eq!(rt; sent, 1);
     assert!(rt; maker.journal(3).is_none(), "the part has the list still");
