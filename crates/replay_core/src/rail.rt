@@ -17,7 +17,7 @@ ghost use Rattle.replay_core.specs.Report.{counted};
 ghost use Rattle.replay_core.specs.Script.{IsOneContext, seen_script};
 
 use crate::plain::only_context;
-use crate::ways::{Lends, Runs};
+use crate::ways::{Launches, RunsLines};
 use batch_rail::RailState;
 use driver_trait::Machine;
 use gl_front::Counts;
@@ -39,7 +39,7 @@ pub struct RailRun {
 /// Runs a script's context, of this number, over a rail of this maker, in batches of so many slots. The rail is had as `H`
 /// has it, and is closed on every way out; own.
 pub(crate) fn run_script<
-    H: Runs<W, Soft, R> + Lends<W, Soft, R, M>,
+    H: RunsLines<W, Soft, R> + Launches<W, Soft, R, M>,
     W,
     T: Threads + Sync,
     R: RailState<Soft>,
@@ -107,7 +107,7 @@ pub(crate) struct LinesRun {
 
 /// Runs the lines of a context over a rail, through a front that is made for them. The rail is given back on every way
 /// out, with no batch open.
-pub(crate) fn run_over<H: Runs<W, D, R>, W, T: Threads + Sync, D: Machine, R: RailState<D>>(
+pub(crate) fn run_over<H: RunsLines<W, D, R>, W, T: Threads + Sync, D: Machine, R: RailState<D>>(
     rt: &T,
     wait: &W,
     alloc: Global,

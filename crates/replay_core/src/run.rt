@@ -16,7 +16,7 @@ use crate::image::{ImageFile, files, frame_file};
 use crate::plain::{DirectRun, direct};
 use crate::rail::{RailRun, run_script};
 use crate::reporting::{direct_report, report};
-use crate::ways::{Lends, Runs};
+use crate::ways::{Launches, RunsLines};
 use batch_rail::RailState;
 use gl_front::Counts;
 use replay_lines::Results;
@@ -36,7 +36,7 @@ pub struct Output {
 /// Carries out a command on a script's context, of this number. A rail is had as `H` has it.
 #[tactic(auto, using(crate::proofs::JournalLemmas::hands_over_none))]
 pub(crate) fn run_command<
-    H: Runs<W, Soft, R> + Lends<W, Soft, R, M>,
+    H: RunsLines<W, Soft, R> + Launches<W, Soft, R, M>,
     W,
     T: Threads + Sync,
     R: RailState<Soft>,

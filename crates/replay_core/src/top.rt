@@ -15,7 +15,7 @@ ghost use Rattle.replay_text.specs.declared.asked.Command.TheVariants.{Direct};
 
 use crate::deliver::deliver;
 use crate::run::run_command;
-use crate::ways::{Lends, Runs};
+use crate::ways::{Launches, RunsLines};
 use batch_rail::{RailMaker, RailState, WaitMaker, WaitPart};
 use driver_trait::{Plainly, Waiting};
 use gl_outside::{ReadError, Shelf, Sink, Source, read_up_to};
@@ -182,7 +182,7 @@ pub fn replay<T: Threads + Sync, W: Wait, S: Source, K: Sink, G: Shelf, R: WaitM
 
 /// Replays as [`replay_alone`] and [`replay`] do, over a maker whose rails are had as `H` has them.
 fn replay_by<
-    H: Runs<W, Soft, L> + Lends<W, Soft, L, R>,
+    H: RunsLines<W, Soft, L> + Launches<W, Soft, L, R>,
     W,
     T: Threads + Sync,
     S: Source,

@@ -27,7 +27,7 @@ use std::thread::Threads;
 
 /// A way to run lines through a front over a rail, with what it may wait by; own. [`Plainly`] has fronts whose calls return,
 /// and [`Waiting`] fronts whose calls may wait.
-pub(crate) trait Runs<W, D: Machine, R: RailState<D>>: Sized {
+pub(crate) trait RunsLines<W, D: Machine, R: RailState<D>>: Sized {
     /// A front over a rail as it is launched and over client memory. Want of memory gives both back.
     fn front(
         alloc: Global,
@@ -73,7 +73,7 @@ pub(crate) trait Runs<W, D: Machine, R: RailState<D>>: Sized {
             front.old front.new };
 }
 
-impl<W, D: Driver, R: Rail<D>> Runs<W, D, R> for Plainly {
+impl<W, D: Driver, R: Rail<D>> RunsLines<W, D, R> for Plainly {
     fn front(
         alloc: Global,
         rail: R,
@@ -99,7 +99,7 @@ impl<W, D: Driver, R: Rail<D>> Runs<W, D, R> for Plainly {
     }
 }
 
-impl<W: Wait, D: WaitDriver, R: WaitRail<D>> Runs<W, D, R> for Waiting {
+impl<W: Wait, D: WaitDriver, R: WaitRail<D>> RunsLines<W, D, R> for Waiting {
     fn front(
         alloc: Global,
         rail: R,
@@ -127,9 +127,9 @@ impl<W: Wait, D: WaitDriver, R: WaitRail<D>> Runs<W, D, R> for Waiting {
 
 /// A way to have a maker's rails, with what it may wait by; own. [`Plainly`] has a maker launch and close them, and
 /// [`Waiting`] a part that is split from its maker for as long as a rail is out.
-pub(crate) trait Lends<W, D: Machine, R: RailState<D>, M> {
+pub(crate) trait Launches<W, D: Machine, R: RailState<D>, M> {
     /// What is kept until the rail is closed.
-    type Part;
+    type Part: Drop;
 
     /// The batches of each context, where the maker tells them.
     ghost journal: { M → ℕ → Option (List (List Spelled)) };
@@ -155,6 +155,7 @@ pub(crate) trait Lends<W, D: Machine, R: RailState<D>, M> {
             (R.size lent.1) (R.sent lent.1) driver slots) }
         ensures told { IfOk result
             (λ lent. Gains (journal maker.old context) (R.journal lent.1) []) }
+        ensures err { IfErr result (λ refusal. refusal.0 ≡ driver) }
         ensures refused_told { OnErr result
             (Gains (journal maker.old context) (journal maker.new context) []) }
         ensures others { KeepsOthers (journal maker.old) (journal maker.new) context };
@@ -177,7 +178,7 @@ pub(crate) trait Lends<W, D: Machine, R: RailState<D>, M> {
         ensures others { KeepsOthers (journal maker.old) (journal maker.new) context };
 }
 
-impl<W, D: Driver, M: RailMaker<D>> Lends<W, D, M::Made, M> for Plainly {
+impl<W, D: Driver, M: RailMaker<D>> Launches<W, D, M::Made, M> for Plainly {
     type Part = ();
 
     ghost journal = { M.journal };
@@ -210,8 +211,9 @@ impl<W, D: Driver, M: RailMaker<D>> Lends<W, D, M::Made, M> for Plainly {
     }
 }
 
-impl<W: Wait, D: WaitDriver, M: WaitMaker<D>> Lends<W, D, <M::Part as WaitPart<D>>::Made, M>
-    for Waiting {
+impl<W: Wait, D: WaitDriver, M: WaitMaker<D>>
+    Launches<W, D, <M::Part as WaitPart<D>>::Made, M> for Waiting
+{
     type Part = M::Part;
 
     ghost journal = { M.journal };

@@ -4,13 +4,14 @@ ghost use Rattle.std.specs.Prelude.{◌≡◌, ◌<◌};
 ghost use Rattle.batch_rail.specs.declared.maker.RailKind.TheVariants.{Inline};
 
 use crate::told::{LARGE, MOST_LINES, PAST_LIMITS, REFUSED, RUNS};
-use batch_rail::{InlineMaker, JournalMaker, RailKind, RailMaker};
+use batch_rail::{InlineMaker, JournalMaker, RailKind, RailMaker, WaitMaker};
 use gl_outside::{MemoryShelf, MemorySink, MemorySource};
 use replay_core::replay_alone;
 use replay_text::Status;
 use soft_driver::Soft;
 use std::alloc::{AllocError, Global};
 use std::process::Abort;
+use std::sync::Wait;
 use std::test::Fail;
 use std::thread::Threads;
 
@@ -54,6 +55,29 @@ pub(crate) fn replay<T: Threads + Sync>(
     replay_over(rt, alloc, words, text, outside, &mut rails)
 }
 
+/// The words and the objects of a run.
+struct Ready {
+    words: Vec<String>,
+    source: MemorySource,
+    sink: MemorySink,
+    shelf: MemoryShelf,
+}
+
+/// The words, of which a blank stands between each two, and the objects, the source with a script.
+fn ready(alloc: Global, words: &str, text: &[u8], outside: Outside) -> Result<Ready, AllocError> {
+    let mut all = Vec::new(alloc);
+    for word in words.split(' ') {
+        all.push(String::from_str(alloc, word)?)?;
+    }
+    let most = outside.most.max(1);
+    Ok(Ready {
+        words: all,
+        source: MemorySource::new(Vec::from_slice(alloc, text)?, outside.source, most),
+        sink: MemorySink::new(alloc, outside.sink, most),
+        shelf: MemoryShelf::new(alloc, outside.shelf),
+    })
+}
+
 /// Replays over any maker whose rails are inline.
 pub(crate) fn replay_over<T: Threads + Sync, R: RailMaker<Soft>>(
     rt: &T,
@@ -65,15 +89,48 @@ pub(crate) fn replay_over<T: Threads + Sync, R: RailMaker<Soft>>(
 ) -> Result<Left, AllocError>
     requires { R.kind_of rails.old ≡ Inline }
 {
-    let mut all = Vec::new(alloc);
-    for word in words.split(' ') {
-        all.push(String::from_str(alloc, word)?)?;
-    }
-    let most = outside.most.max(1);
-    let mut source = MemorySource::new(Vec::from_slice(alloc, text)?, outside.source, most);
-    let mut sink = MemorySink::new(alloc, outside.sink, most);
-    let mut shelf = MemoryShelf::new(alloc, outside.shelf);
+    let Ready {
+        words: all,
+        mut source,
+        mut sink,
+        mut shelf,
+    } = ready(alloc, words, text, outside)?;
     let status = replay_alone(rt, alloc, &all, &mut source, &mut sink, &mut shelf, rails);
+    Ok(Left {
+        status,
+        sink,
+        shelf,
+    })
+}
+
+/// Replays over any maker whose rails are inline, by the call that may wait.
+fn wait_over<T: Threads + Sync, W: Wait, R: WaitMaker<Soft>>(
+    rt: &T,
+    wait: &W,
+    alloc: Global,
+    words: &str,
+    text: &[u8],
+    outside: Outside,
+    rails: &mut R,
+) -> Result<Left, AllocError>
+    requires { R.kind_of rails.old ≡ Inline }
+{
+    let Ready {
+        words: all,
+        mut source,
+        mut sink,
+        mut shelf,
+    } = ready(alloc, words, text, outside)?;
+    let status = replay_core::replay(
+        rt,
+        wait,
+        alloc,
+        &all,
+        &mut source,
+        &mut sink,
+        &mut shelf,
+        rails,
+    );
     Ok(Left {
         status,
         sink,
@@ -171,15 +228,26 @@ pub(crate) fn ended(alloc: Global, status: &Status, told: &str) -> Result<bool, 
     Ok(text.as_str().strip_prefix("glreplay: ") == Some(told))
 }
 
-/// Whether a run ends as is told, with the report and the files that are told, and no other.
-fn runs_so<T: Threads + Sync>(rt: &T, alloc: Global, told: &str) -> Result<bool, AllocError> {
+/// The words that are told of a run.
+fn words_of(told: &str) -> &str {
+    told.split('~').next().unwrap_or("")
+}
+
+/// The script that is told of a run.
+fn script_in(alloc: Global, told: &str) -> Result<Vec<u8>, AllocError> {
     let mut fields = told.split('~');
-    let words = fields.next().unwrap_or("");
+    let _words = fields.next();
+    let _status = fields.next();
+    script_of(alloc, fields.next().unwrap_or("").trim_start())
+}
+
+/// Whether a run left what is told of it: how it ended, the report and the files, and no other.
+fn left_so(alloc: Global, left: &Left, told: &str) -> Result<bool, AllocError> {
+    let mut fields = told.split('~');
+    let _words = fields.next();
     let status = fields.next().unwrap_or("");
-    let script = script_of(alloc, fields.next().unwrap_or("").trim_start())?;
+    let _script = fields.next();
     let report = fields.next().unwrap_or("").trim_start();
-    let sure = Outside::sure(alloc, 65536);
-    let left = replay(rt, alloc, words, script.as_slice(), sure)?;
     if !ended(alloc, &left.status, status)? || !is_report(left.sink.bytes(), report) {
         return Ok(false);
     }
@@ -191,6 +259,36 @@ fn runs_so<T: Threads + Sync>(rt: &T, alloc: Global, told: &str) -> Result<bool,
         place = place.wrapping_add(1);
     }
     Ok(left.shelf.len() == place)
+}
+
+/// Whether a run leaves what is told.
+fn runs_so<T: Threads + Sync>(rt: &T, alloc: Global, told: &str) -> Result<bool, AllocError> {
+    let script = script_in(alloc, told)?;
+    let sure = Outside::sure(alloc, 65536);
+    let left = replay(rt, alloc, words_of(told), script.as_slice(), sure)?;
+    left_so(alloc, &left, told)
+}
+
+/// Whether a run by the call that may wait leaves what is told.
+fn waits_so<T: Threads + Sync, W: Wait>(
+    rt: &T,
+    wait: &W,
+    alloc: Global,
+    told: &str,
+) -> Result<bool, AllocError> {
+    let script = script_in(alloc, told)?;
+    let sure = Outside::sure(alloc, 65536);
+    let mut rails = InlineMaker::new();
+    let left = wait_over(
+        rt,
+        wait,
+        alloc,
+        words_of(told),
+        script.as_slice(),
+        sure,
+        &mut rails,
+    )?;
+    left_so(alloc, &left, told)
 }
 
 /// Runs each of these, and counts them.
@@ -213,6 +311,20 @@ fn count_runs<T: Threads + Sync + Abort>(
 #[test]
 fn each_script_has_its_report_and_its_images(rt: HostRuntime) -> Result<(), Fail> {
     assert_eq!(rt; count_runs(&rt, rt.alloc(), RUNS)?, 20);
+    Ok(())
+}
+
+// The bytes are those of the runs above.
+#[test]
+fn each_script_leaves_the_same_by_the_call_that_may_wait(rt: HostRuntime) -> Result<(), Fail> {
+    let mut count = 0_u32;
+    for told in RUNS.split('@') {
+        if !told.is_empty() {
+            assert!(rt; waits_so(&rt, &rt, rt.alloc(), told)?, "the run {told}");
+            count = count.wrapping_add(1);
+        }
+    }
+    assert_eq!(rt; count, 20);
     Ok(())
 }
 
@@ -248,9 +360,10 @@ fn the_most_lines_are_run_over_the_longest_ring(rt: HostRuntime) -> Result<(), F
 const PARTED: &str =
     "glscript 1\ncontext 0 1 1 0\n0 Clear 0x4000\n0 Flush\n0 MatrixMode PROJECTION\n0 PushMatrix\n0 GetError\n0 Rotatex -65536 0 0 65536\n0 Frustumx -1 1 -1 1 1 2\n0 LoadIdentity\n0 Viewport -1 0 5 5\nend\n";
 
-// The slots of each batch are those of another program.
-#[test]
-fn a_run_hands_over_the_batches_of_its_calls(rt: HostRuntime) -> Result<(), Fail> {
+const SMALL_BATCHES: &str = "run --rail inline --batch 16";
+
+/// The script above was run, and its batches were handed over. The slots of each are those of another program.
+fn handed_over(rt: &impl Abort, left: &Left, rails: &JournalMaker) {
     let batches: [&[u64]; 4] = [
         &[0x2_0008, 0x4000, 0x1_001C],
         &[0x2_002A, 0x1701, 0x1_0032],
@@ -271,17 +384,45 @@ fn a_run_hands_over_the_batches_of_its_calls(rt: HostRuntime) -> Result<(), Fail
         ],
         &[0x5_0040, 0xFFFF_FFFF_FFFF_FFFF, 0, 5, 5],
     ];
-    let words = "run --rail inline --batch 16";
-    let mut rails = JournalMaker::new(rt.alloc(), RailKind::Inline, 24)?;
-    let sure = Outside::sure(rt.alloc(), 4096);
-    let left = replay_over(&rt, rt.alloc(), words, PARTED.as_bytes(), sure, &mut rails)?;
     assert_eq!(rt; left.status, Status::Ok);
     assert_eq!(rt;
         left.sink.bytes(),
         b"glreport 1\n7 0 GetError 0\ncounts 0 8 1 0 4\nimages 1\nend\n".as_slice()
     );
-    tells(&rt, &rails, 0, &batches);
-    tells(&rt, &rails, 1, &[]);
+    tells(rt, rails, 0, &batches);
+    tells(rt, rails, 1, &[]);
+}
+
+#[test]
+fn a_run_hands_over_the_batches_of_its_calls(rt: HostRuntime) -> Result<(), Fail> {
+    let mut rails = JournalMaker::new(rt.alloc(), RailKind::Inline, 24)?;
+    let sure = Outside::sure(rt.alloc(), 4096);
+    let left = replay_over(
+        &rt,
+        rt.alloc(),
+        SMALL_BATCHES,
+        PARTED.as_bytes(),
+        sure,
+        &mut rails,
+    )?;
+    handed_over(&rt, &left, &rails);
+    Ok(())
+}
+
+#[test]
+fn a_run_that_may_wait_hands_over_the_same_batches(rt: HostRuntime) -> Result<(), Fail> {
+    let mut rails = JournalMaker::new(rt.alloc(), RailKind::Inline, 24)?;
+    let sure = Outside::sure(rt.alloc(), 4096);
+    let left = wait_over(
+        &rt,
+        &rt,
+        rt.alloc(),
+        SMALL_BATCHES,
+        PARTED.as_bytes(),
+        sure,
+        &mut rails,
+    )?;
+    handed_over(&rt, &left, &rails);
     Ok(())
 }
 

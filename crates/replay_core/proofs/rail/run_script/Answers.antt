@@ -21,10 +21,10 @@ run_over-ran-requires-clause-launched g c κs live =
     c.in-Ok.ensures.ok
 
 pub returns-in_err-memory-clause-stopped : goal.returns-in_err-memory-clause-stopped
-returns-in_err-memory-clause-stopped g c = OnErr-always c.from_residual.result (hands_over_none c.args.context (g.H.Lends.journal c.args.rails.now))
+returns-in_err-memory-clause-stopped g c = OnErr-always c.from_residual.result (hands_over_none c.args.context (g.H.Launches.journal c.args.rails.now))
 
 pub returns-in_err-driver-clause-stopped : goal.returns-in_err-driver-clause-stopped
-returns-in_err-driver-clause-stopped g c = OnErr-always c.from_residual-in_err-driver.result (hands_over_none c.args.context (g.H.Lends.journal c.args.rails.now))
+returns-in_err-driver-clause-stopped g c = OnErr-always c.from_residual-in_err-driver.result (hands_over_none c.args.context (g.H.Launches.journal c.args.rails.now))
 
 -- what a run over the rail came to
 ended : (g : Rattle.replay_core.proofs.rail.run_script.Given.Over) (c : goal.In_ok-soft g) → RanToEnd c.args.context (seen_script c.args.script.now) c.args.batch c.in_ok-soft.soft c.in_ok-results.field-0.results c.in_ok-results.field-0.counts (g.R.RailState.journal c.in-Ok.lent.1) (g.R.RailState.journal c.run_over-ran.result.1)
@@ -52,13 +52,13 @@ returns-clause-counts g c = (ended g c).all_counted
 
 pub returns-clause-journal : goal.returns-clause-journal
 returns-clause-journal g c =
-    let journal = g.H.Lends.journal in
+    let journal = g.H.Launches.journal in
     hands_over c.args.context (journal c.args.rails.now) (journal c.launch.new.maker) (journal c.close-closed.new.maker) c.in-Ok.ensures.others c.close-closed.ensures.others
     (g.R.RailState.journal c.in-Ok.lent.1) (g.R.RailState.journal c.run_over-ran.result.1) _ c.in-Ok.ensures.told (ended g c).handed_over c.close-closed.ensures.told
 
 pub returns-in_err-results-clause-stopped : goal.returns-in_err-results-clause-stopped
 returns-in_err-results-clause-stopped g c =
-    let journal = g.H.Lends.journal in
+    let journal = g.H.Launches.journal in
     let tells = g.R.RailState.journal in
     OnErr-always c.from_residual-in_err-results.result
     (hands_over_some c.args.context (journal c.args.rails.now) (journal c.launch.new.maker) (journal c.close-closed.new.maker) c.in-Ok.ensures.others c.close-closed.ensures.others
@@ -67,7 +67,7 @@ returns-in_err-results-clause-stopped g c =
 
 pub returns-in_err-soft-clause-stopped : goal.returns-in_err-soft-clause-stopped
 returns-in_err-soft-clause-stopped g c =
-    let journal = g.H.Lends.journal in
+    let journal = g.H.Launches.journal in
     let stands = g.R.RailState.stands in
     let tells = g.R.RailState.journal in
     let over : LinesRun → Type 0 = λ ran. RunsOver own_tracked OwnSteps stands tells (record { size = g.R.RailState.size c.in-Ok.lent.1; memory = c.in_ok-memory.memory; launched = c.in-Ok.lent.1; back = c.run_over-ran.result.1 }) (lines_in c.args.context c.as_slice.result.now) ran.results ran.counts in

@@ -10,14 +10,14 @@ use Rattle.replay_core.proofs.top.replay_by.Goals as goal
 pub returns-in-Err-NoMemory-clause-no_memory : goal.returns-in-Err-NoMemory-clause-no_memory
 returns-in-Err-NoMemory-clause-no_memory g c = λ asked words e. (
   record { reads = c.in-Err-NoMemory.ensures.no_memory cc; writes = refl; puts = refl },
-  inl (record { read = c.in-Err-NoMemory.ensures.err; handed_over = hands_over_none 0 (g.H.Lends.journal c.args.rails.now); unput = refl; unwritten = refl }),
+  inl (record { read = c.in-Err-NoMemory.ensures.err; handed_over = hands_over_none 0 (g.H.Launches.journal c.args.rails.now); unput = refl; unwritten = refl }),
 )
 
 pub returns-in-Err-NoMemory-read-clause-no_memory : goal.returns-in-Err-NoMemory-read-clause-no_memory
 returns-in-Err-NoMemory-read-clause-no_memory g c = λ asked words e.
     let read : TakesAtMost 8388609 (g.S.Source.left c.args.source.now) (g.S.Source.left c.read_up_to.new.source) = record { some = c.in-Ok.bytes.items; taken = c.in-Ok.ensures.ok; few = c.in-Ok.ensures.within } in (
       record { reads = c.in-Ok.ensures.kept; writes = refl; puts = refl },
-      inl (record { read = read; handed_over = hands_over_none 0 (g.H.Lends.journal c.args.rails.now); unput = refl; unwritten = refl }),
+      inl (record { read = read; handed_over = hands_over_none 0 (g.H.Launches.journal c.args.rails.now); unput = refl; unwritten = refl }),
     )
 
 pub returns-in-Err-Bad-clause-refused : goal.returns-in-Err-Bad-clause-refused
@@ -41,7 +41,7 @@ returns-in-Err-Bad-clause-complete g c = λ left asked script e words accepted s
 
 pub returns-in-Ok-run_command-clause-ok : goal.returns-in-Ok-run_command-clause-ok
 returns-in-Ok-run_command-clause-ok g c = λ asked words e.
-    let told = world_of g.S.Source.left g.K.Sink.held g.G.Shelf.list g.H.Lends.journal g.S.Source.faults g.K.Sink.faults g.G.Shelf.faults in
+    let told = world_of g.S.Source.left g.K.Sink.held g.G.Shelf.list g.H.Launches.journal g.S.Source.faults g.K.Sink.faults g.G.Shelf.faults in
     let before = told c.args.source.now c.args.sink.now c.args.shelf.now c.args.rails.now in
     let after = told c.read_up_to.new.source c.deliver.new.sink c.deliver.new.shelf c.run_command.new.rails in
     let script = c.in-Ok-read.script in
@@ -55,7 +55,7 @@ returns-in-Ok-run_command-clause-ok g c = λ asked words e.
 
 pub returns-in-Ok-run_command-clause-shelf_fault : goal.returns-in-Ok-run_command-clause-shelf_fault
 returns-in-Ok-run_command-clause-shelf_fault g c = λ asked words stored e.
-    let told = world_of g.S.Source.left g.K.Sink.held g.G.Shelf.list g.H.Lends.journal g.S.Source.faults g.K.Sink.faults g.G.Shelf.faults in
+    let told = world_of g.S.Source.left g.K.Sink.held g.G.Shelf.list g.H.Launches.journal g.S.Source.faults g.K.Sink.faults g.G.Shelf.faults in
     let before = told c.args.source.now c.args.sink.now c.args.shelf.now c.args.rails.now in
     let after = told c.read_up_to.new.source c.deliver.new.sink c.deliver.new.shelf c.run_command.new.rails in
     let script = c.in-Ok-read.script in
@@ -69,7 +69,7 @@ returns-in-Ok-run_command-clause-shelf_fault g c = λ asked words stored e.
 
 pub returns-in-Ok-run_command-clause-write_fault : goal.returns-in-Ok-run_command-clause-write_fault
 returns-in-Ok-run_command-clause-write_fault g c = λ asked words e.
-    let told = world_of g.S.Source.left g.K.Sink.held g.G.Shelf.list g.H.Lends.journal g.S.Source.faults g.K.Sink.faults g.G.Shelf.faults in
+    let told = world_of g.S.Source.left g.K.Sink.held g.G.Shelf.list g.H.Launches.journal g.S.Source.faults g.K.Sink.faults g.G.Shelf.faults in
     let before = told c.args.source.now c.args.sink.now c.args.shelf.now c.args.rails.now in
     let after = told c.read_up_to.new.source c.deliver.new.sink c.deliver.new.shelf c.run_command.new.rails in
     let script = c.in-Ok-read.script in
@@ -83,7 +83,7 @@ returns-in-Ok-run_command-clause-write_fault g c = λ asked words e.
 
 pub returns-in-Ok-run_command-clause-no_memory : goal.returns-in-Ok-run_command-clause-no_memory
 returns-in-Ok-run_command-clause-no_memory g c = λ asked words e.
-    let told = world_of g.S.Source.left g.K.Sink.held g.G.Shelf.list g.H.Lends.journal g.S.Source.faults g.K.Sink.faults g.G.Shelf.faults in
+    let told = world_of g.S.Source.left g.K.Sink.held g.G.Shelf.list g.H.Launches.journal g.S.Source.faults g.K.Sink.faults g.G.Shelf.faults in
     let before = told c.args.source.now c.args.sink.now c.args.shelf.now c.args.rails.now in
     let after = told c.read_up_to.new.source c.deliver.new.sink c.deliver.new.shelf c.run_command.new.rails in
     let script = c.in-Ok-read.script in
