@@ -6,10 +6,19 @@ use gl_memory::ClientMemory;
 use gl_words::{Call, call_from, call_id, shape_of_name};
 use soft_driver::Soft;
 use std::alloc::{AllocError as NoMemory, Global};
+use std::sync::Wait;
 use std::test::Fail;
 use std::thread::Threads;
 
-/// Carries a call out on client memory, by whichever driver. Gives its number, or -1 where it replies none or a list.
+/// The number that is replied, or -1 where it is none or a list.
+fn told(reply: &Reply) -> i64 {
+    match reply {
+        Reply::One(number) => *number,
+        _ => -1,
+    }
+}
+
+/// Carries a call out on client memory, by whichever driver, and gives the number that it replies.
 fn number<T: Threads + Sync, D: Driver>(
     rt: &T,
     alloc: Global,
@@ -21,10 +30,42 @@ fn number<T: Threads + Sync, D: Driver>(
     follows_law(driver);
     answers_law(driver);
     replies_law(driver);
-    match driver.call(rt, call, &memory)? {
-        Reply::One(number) => Ok(number),
-        _ => Ok(-1),
+    Ok(told(&driver.call(rt, call, &memory)?))
+}
+
+/// The same by the form of the call that may wait.
+fn number_by_waiting<T: Threads + Sync, W: Wait, D: driver_trait::WaitDriver>(
+    rt: &T,
+    wait: &W,
+    alloc: Global,
+    driver: &mut D,
+    call: &Call,
+) -> Result<i64, NoMemory> {
+    let memory = ClientMemory::new(alloc, 16)?;
+    Ok(told(&driver.call(rt, wait, call, &memory)?))
+}
+
+#[test]
+fn the_call_that_may_wait_replies_as_the_other(rt: HostRuntime) -> Result<(), Fail> {
+    let mut soft = Soft::new(rt.alloc(), 0, 1, 1)?;
+    let mut recorder = Recorder::new(rt.alloc());
+    let rows = [
+        (Call::Clear { mask: 16384 }, -1),
+        (
+            Call::GetIntegerv {
+                pname: 2976,
+                params: 0,
+            },
+            5888,
+        ),
+    ];
+    for (call, replied) in rows {
+        let number = number_by_waiting(&rt, &rt, rt.alloc(), &mut soft, &call)?;
+        assert_eq!(rt; number, replied);
+        let number = number_by_waiting(&rt, &rt, rt.alloc(), &mut recorder, &call)?;
+        assert_eq!(rt; number, replied);
     }
+    Ok(())
 }
 
 #[test]
