@@ -1,5 +1,5 @@
 use Rattle.std.proofs.Common.{◌≡◌, ◌*◌, ◌≤◌}
-use Rattle.layer_tests.proofs.front.both.wait_issue_each.Given as goal
+use Rattle.front_tests.proofs.front.both.wait_issue_each.Given as goal
 
 -- each call raises each count by at most two, and as many batches are sent as are counted
 abbrev pub invariant-loop-call : goal.invariant-loop-call
