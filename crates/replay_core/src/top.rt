@@ -111,14 +111,7 @@ pub fn replay_alone<T: Threads + Sync, S: Source, K: Sink, G: Shelf, R: RailMake
 
 /// Replays as [`replay_alone`] does, with the same answers, over a maker whose rails may wait: a part is split from it for the
 /// run, and joined to it again on every way out.
-pub fn replay<
-    T: Threads + Sync,
-    W: Wait,
-    S: Source,
-    K: Sink,
-    G: Shelf,
-    R: WaitMaker<Soft>,
->(
+pub fn replay<T: Threads + Sync, W: Wait, S: Source, K: Sink, G: Shelf, R: WaitMaker<Soft>>(
     rt: &T,
     wait: &W,
     alloc: Global,
@@ -183,14 +176,7 @@ pub fn replay<
         → (result ≡ Status.Ok) ⊎ (result ≡ Status.NoMemory) }
 {
     replay_by::<Waiting, W, T, S, K, G, <R::Part as WaitPart<Soft>>::Made, R>(
-        rt,
-        wait,
-        alloc,
-        words,
-        source,
-        sink,
-        shelf,
-        rails,
+        rt, wait, alloc, words, source, sink, shelf, rails,
     )
 }
 

@@ -211,9 +211,8 @@ impl<W, D: Driver, M: RailMaker<D>> Launches<W, D, M::Made, M> for Plainly {
     }
 }
 
-impl<W: Wait, D: WaitDriver, M: WaitMaker<D>>
-    Launches<W, D, <M::Part as WaitPart<D>>::Made, M> for Waiting
-{
+impl<W: Wait, D: WaitDriver, M: WaitMaker<D>> Launches<W, D, <M::Part as WaitPart<D>>::Made, M>
+    for Waiting {
     type Part = M::Part;
 
     ghost journal = { M.journal };
