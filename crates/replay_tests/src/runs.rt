@@ -64,7 +64,12 @@ struct Ready {
 }
 
 /// The words, of which a blank stands between each two, and the objects, the source with a script.
-fn ready(alloc: Global, words: &str, text: &[u8], outside: Outside) -> Result<Ready, AllocError> {
+fn made_ready(
+    alloc: Global,
+    words: &str,
+    text: &[u8],
+    outside: Outside,
+) -> Result<Ready, AllocError> {
     let mut all = Vec::new(alloc);
     for word in words.split(' ') {
         all.push(String::from_str(alloc, word)?)?;
@@ -94,7 +99,7 @@ pub(crate) fn replay_over<T: Threads + Sync, R: RailMaker<Soft>>(
         mut source,
         mut sink,
         mut shelf,
-    } = ready(alloc, words, text, outside)?;
+    } = made_ready(alloc, words, text, outside)?;
     let status = replay_alone(rt, alloc, &all, &mut source, &mut sink, &mut shelf, rails);
     Ok(Left {
         status,
@@ -120,7 +125,7 @@ fn wait_over<T: Threads + Sync, W: Wait, R: WaitMaker<Soft>>(
         mut source,
         mut sink,
         mut shelf,
-    } = ready(alloc, words, text, outside)?;
+    } = made_ready(alloc, words, text, outside)?;
     let status = replay_core::replay(
         rt,
         wait,
