@@ -11,6 +11,9 @@ use Rattle.batch_pack.specs.Spelling.{Spelled}
 use Rattle.driver_trait.specs.Driver.{Steps}
 use Rattle.batch_rail.specs.Run.{Run, RunFirst}
 use Rattle.batch_rail.proofs.BatchRuns.{RunFirst-next, RunFirst-more, RunFirst-last}
+use Rattle.epoch_rail.specs.Ends.{SameWorker, SameCaller}
+use Rattle.epoch_rail.specs.declared.ends.WorkerEnds.{WorkerEnds}
+use Rattle.epoch_rail.specs.declared.ends.CallerEnds.{CallerEnds}
 use Rattle.epoch_rail.specs.Work.{calls_of, RunAll, HaveCall, CarriedOne, Carried, GoesOn}
 use Rattle.epoch_rail.specs.declared.work.Work.{Work}
 
@@ -66,6 +69,20 @@ pub SameProducer-then : {T A P : Type 0} (one two three : Producer T A P) → Sa
 SameProducer-then one two three first second =
     ((second.0.0 ∙ first.0.0, second.0.1 ∙ first.0.1, second.0.2 ∙ first.0.2, second.0.3 ∙ first.0.3), second.1 ∙ first.1)
 
+pub SameWorker-then : (one two three : WorkerEnds) → SameWorker one two → SameWorker two three → SameWorker one three
+SameWorker-then one two three first second = record {
+  filled = SameConsumer-then one.filled two.filled three.filled first.filled second.filled;
+  emptied = SameProducer-then one.emptied two.emptied three.emptied first.emptied second.emptied;
+  size = second.size ∙ first.size;
+}
+
+pub SameCaller-then : (one two three : CallerEnds) → SameCaller one two → SameCaller two three → SameCaller one three
+SameCaller-then one two three first second = record {
+  filled = SameProducer-then one.filled two.filled three.filled first.filled second.filled;
+  emptied = SameConsumer-then one.emptied two.emptied three.emptied first.emptied second.emptied;
+  size = second.size ∙ first.size;
+}
+
 HaveCall-on : (failed : Bool) (ran : List BatchView) (batch : BatchView) → (failed ≡ true) ⊎ HaveCall (calls_of ran) → (failed ≡ true) ⊎ HaveCall (calls_of (ran ++ batch ∷ []))
 HaveCall-on failed ran batch (inl before) = inl before
 HaveCall-on failed ran batch (inr have) = inr (subst HaveCall (sym (calls_of-push ran batch)) (HaveCall-front (calls_of ran) (batch.calls ∷ []) have))
@@ -93,25 +110,20 @@ module _ {S : Type 0} (steps : Steps S) where
   unfolding calls_of
   Carried-none work = record {
     ran = [];
-    took = sym (append-nil (received work.filled));
-    filled = ((refl, refl, refl, refl), refl);
-    emptied = ((refl, refl, refl, refl), refl);
-    size = refl;
+    took = sym (append-nil (received work.ends.filled));
+    same = record { filled = ((refl, refl, refl, refl), refl); emptied = ((refl, refl, refl, refl), refl); size = refl };
     runs = λ sound. (sound, refl);
     cause = λ failed. inl failed;
   }
 
   -- a worker carried out one batch more
-  pub Carried-push : (start before after : Work S) (mid : _) (batch : BatchView) → Carried steps start before
-      → received mid ≡ received before.filled ++ batch ∷ [] → SameConsumer before.filled mid → after.filled ≡ mid
-      → SameProducer before.emptied after.emptied → after.size ≡ before.size
+  pub Carried-push : (start before after : Work S) (mid : WorkerEnds) (batch : BatchView) → Carried steps start before
+      → received mid.filled ≡ received before.ends.filled ++ batch ∷ [] → SameWorker before.ends mid → after.ends.filled ≡ mid.filled → SameWorker mid after.ends
       → CarriedOne steps before.failed before.driver batch.calls after.failed after.driver → Carried steps start after
-  Carried-push start before after mid batch carried took filled same emptied size one = record {
+  Carried-push start before after mid batch carried took first filled second one = record {
     ran = carried.ran ++ batch ∷ [];
-    took = ap received same ∙ took ∙ ap (λ (l : List BatchView). l ++ batch ∷ []) carried.took ∙ append_assoc (received start.filled) carried.ran (batch ∷ []);
-    filled = SameConsumer-then start.filled before.filled after.filled carried.filled (subst (λ c. SameConsumer before.filled c) (sym same) filled);
-    emptied = SameProducer-then start.emptied before.emptied after.emptied carried.emptied emptied;
-    size = size ∙ carried.size;
+    took = ap received filled ∙ took ∙ ap (λ (l : List BatchView). l ++ batch ∷ []) carried.took ∙ append_assoc (received start.ends.filled) carried.ran (batch ∷ []);
+    same = SameWorker-then start.ends before.ends after.ends carried.same (SameWorker-then before.ends mid after.ends first second);
     runs = λ sound.
         let last = one.runs sound in
         let others = carried.runs (last.0) in
@@ -121,14 +133,12 @@ module _ {S : Type 0} (steps : Steps S) where
   }
 
   -- or none
-  pub Carried-same : (start before after : Work S) → Carried steps start before → received after.filled ≡ received before.filled → SameConsumer before.filled after.filled
-      → after.emptied ≡ before.emptied → after.size ≡ before.size → after.driver ≡ before.driver → after.failed ≡ before.failed → Carried steps start after
-  Carried-same start before after carried took filled emptied size driver failed = record {
+  pub Carried-same : (start before after : Work S) → Carried steps start before → received after.ends.filled ≡ received before.ends.filled → SameWorker before.ends after.ends
+      → after.driver ≡ before.driver → after.failed ≡ before.failed → Carried steps start after
+  Carried-same start before after carried took same driver failed = record {
     ran = carried.ran;
     took = took ∙ carried.took;
-    filled = SameConsumer-then start.filled before.filled after.filled carried.filled filled;
-    emptied = subst (λ p. SameProducer start.emptied p) (sym emptied) carried.emptied;
-    size = size ∙ carried.size;
+    same = SameWorker-then start.ends before.ends after.ends carried.same same;
     runs = λ sound. let all = carried.runs (sym failed ∙ sound) in (all.0, subst (λ (st : S). RunAll steps start.driver (calls_of carried.ran) st) (sym driver) (all.1));
     cause = λ fails. carried.cause (sym failed ∙ fails);
   }

@@ -1,6 +1,7 @@
 -- What a worker carries out; own.
 use Rattle.std.specs.Prelude.{◌≡◌, ◌≢◌, ℕ, ◌⊎◌, Bool, true, false, List, [], ◌++◌, map, length, flat_map}
-use Rattle.rtrb.specs.Ring.{received, SameConsumer, SameProducer}
+use Rattle.rtrb.specs.Ring.{received}
+use Rattle.epoch_rail.specs.Ends.{SameWorker}
 use Rattle.batch_pack.specs.Batch.{BatchView}
 use Rattle.batch_pack.specs.Spelling.{Spelled}
 use Rattle.driver_trait.specs.Driver.{Steps}
@@ -27,10 +28,8 @@ pub record CarriedOne {S : Type 0} (steps : Steps S) (failed : Bool) (driver : S
 -- between two times a worker received these batches and carried them out in order, each once, unless one failed; own
 pub record Carried {S : Type 0} (steps : Steps S) (before after : Work S) : Type 0 where
   pub ran : List BatchView
-  pub took : received after.filled ≡ received before.filled ++ ran
-  pub filled : SameConsumer before.filled after.filled
-  pub emptied : SameProducer before.emptied after.emptied
-  pub size : after.size ≡ before.size
+  pub took : received after.ends.filled ≡ received before.ends.filled ++ ran
+  pub same : SameWorker before.ends after.ends
   pub runs : after.failed ≡ false → (before.failed ≡ false) × RunAll steps before.driver (calls_of ran) after.driver
   pub cause : after.failed ≡ true → (before.failed ≡ true) ⊎ HaveCall (calls_of ran)
 

@@ -29,10 +29,18 @@ pub trait Crew<D: Machine>: Drop {
     /// Its workers.
     type Worker: Begun<D>;
 
+    /// It may be asked for a worker at any time.
+    ghost ready: { Self → Type 0 };
+
     /// Starts a worker. Where no thread can be started the work comes back, and what was sent may be carried out.
     fn begin(&self, work: Work<D>) -> Result<Self::Worker, Work<D>>
+        requires ready { ready self.now }
         ensures ok { IfOk result (λ worker. Self.Worker.was worker ≡ work) }
         ensures err { IfErr result (λ back. Carried D.steps work back) };
+
+    /// The same crew once more.
+    fn another(&self) -> Self
+        ensures { ready self.now → ready result };
 }
 
 /// What a worker keeps: it carries out what it receives; own.
@@ -72,7 +80,7 @@ pub fn start<
     ensures ok { IfOk result (λ worker. worker.promise.was.value ≡ work) }
     ensures err { IfErr result (λ back. Carried D.steps work back) }
 {
-    let Ok(ending) = Arc::try_clone(&work.ending) else {
+    let Ok(ending) = Arc::try_clone(&work.ends.ending) else {
         return Err(work);
     };
     let interval = Interval {

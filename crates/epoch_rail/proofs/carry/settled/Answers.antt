@@ -1,0 +1,9 @@
+use Rattle.std.proofs.Common.{refl}
+use Rattle.epoch_rail.proofs.Works.{Carried-none, Carried-same}
+use Rattle.epoch_rail.proofs.carry.settled.Goals as goal
+
+pub loop-work-init : goal.loop-work-init
+loop-work-init g c = (
+  Carried-same g.D.Machine.steps c.args.left c.args.left _ (Carried-none g.D.Machine.steps c.args.left) c.see_all.ensures.received c.see_all.ensures.same refl refl,
+  c.see_all.ensures.all,
+)

@@ -1,6 +1,0 @@
-use Rattle.std.proofs.Common.{rules}
-use Rattle.epoch_rail.proofs.Sizes.{MayBegin-pushed}
-use Rattle.epoch_rail.proofs.work.Work.carry.Goals as goal
-
-pub invariant_of-self-clause-given : goal.invariant_of-self-clause-given
-invariant_of-self-clause-given g c = MayBegin-pushed _ _ _ c.args.self.now.size _ _ _ c.push-given.result c.args.self.now.given (search rules) c.push-given.ensures.ok c.push-given.ensures.full
