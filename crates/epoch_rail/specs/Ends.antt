@@ -1,6 +1,6 @@
 -- The ends of the two rings of a rail; own.
-use Rattle.std.specs.Prelude.{◌≡◌}
-use Rattle.rtrb.specs.Ring.{SameConsumer, SameProducer, IsPair}
+use Rattle.std.specs.Prelude.{◌≡◌, ℕ}
+use Rattle.rtrb.specs.Ring.{received, sent, SameConsumer, SameProducer, IsPair}
 use Rattle.epoch_rail.specs.declared.ends.WorkerEnds.{WorkerEnds}
 use Rattle.epoch_rail.specs.declared.ends.CallerEnds.{CallerEnds}
 
@@ -21,3 +21,9 @@ pub record AreFellows (caller : CallerEnds) (worker : WorkerEnds) : Type 0 where
   pub filled : IsPair caller.filled worker.filled
   pub emptied : IsPair worker.emptied caller.emptied
   pub size : worker.size ≡ caller.size
+
+-- ends of new rings, all that was sent being received; own
+pub record AreNew (caller : CallerEnds) (worker : WorkerEnds) (size : ℕ) : Type 0 where
+  pub fellows : AreFellows caller worker
+  pub all : received worker.filled ≡ sent caller.filled
+  pub size : caller.size ≡ size

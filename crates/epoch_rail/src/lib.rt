@@ -5,6 +5,9 @@ mod caller;
 mod carry;
 mod crew;
 mod ends;
+mod launch;
+mod maker;
+mod parts;
 mod rail;
 mod rings;
 mod stage;
@@ -13,6 +16,7 @@ mod work;
 mod worker;
 
 pub use crew::{Begun, Crew, Interval, start};
+pub use parts::{EpochMaker, EpochPart};
 pub use rail::EpochRail;
 pub use starts::Starts;
 pub use work::Work;

@@ -1,5 +1,6 @@
 use Rattle.std.proofs.Common.{refl}
 use Rattle.epoch_rail.proofs.Works.{Carried-none, Carried-same}
+use Rattle.epoch_rail.proofs.Left.{AreFellows-later}
 use Rattle.epoch_rail.proofs.carry.settled.Goals as goal
 
 pub loop-work-init : goal.loop-work-init
@@ -7,3 +8,7 @@ loop-work-init g c = (
   Carried-same g.D.Machine.steps c.args.left c.args.left _ (Carried-none g.D.Machine.steps c.args.left) c.see_all.ensures.received c.see_all.ensures.same refl refl,
   c.see_all.ensures.all,
 )
+
+pub returns-clause-fellows : goal.returns-clause-fellows
+returns-clause-fellows g c =
+    AreFellows-later c.args.caller.now c.see_all.new.caller c.args.left.ends _ c.requires.fellows c.see_all.ensures.caller ?
