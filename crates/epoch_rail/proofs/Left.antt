@@ -166,6 +166,9 @@ MayFail-sent : {S : Type 0} (work : Work S) (batches : List BatchView) (batch : 
 MayFail-sent work batches batch within (inl failed) = inl (inl failed)
 MayFail-sent work batches batch within (inr have) = either_of (HaveCall-others (left_of work batches) batch.calls (subst HaveCall (left_of-push work batches batch within) have))
 
+pub SameCaller-now : (caller : CallerEnds) → SameCaller caller caller
+SameCaller-now caller = record { filled = ((refl, refl, refl, refl), refl); emptied = ((refl, refl, refl, refl), refl); size = refl }
+
 SameWorker-now : (worker : WorkerEnds) → SameWorker worker worker
 SameWorker-now worker = record { filled = ((refl, refl, refl, refl), refl); emptied = ((refl, refl, refl, refl), refl); size = refl }
 

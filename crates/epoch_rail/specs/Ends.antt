@@ -26,4 +26,4 @@ pub record AreFellows (caller : CallerEnds) (worker : WorkerEnds) : Type 0 where
 pub record AreNew (caller : CallerEnds) (worker : WorkerEnds) (size : ℕ) : Type 0 where
   pub fellows : AreFellows caller worker
   pub all : received worker.filled ≡ sent caller.filled
-  pub size : caller.size ≡ size
+  pub of_size : caller.size ≡ size

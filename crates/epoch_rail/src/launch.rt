@@ -31,6 +31,7 @@ pub(crate) fn new_ends(
 
 /// The same with one batch. It goes through the ring of filled batches first, so that each side knows its size from the
 /// first one that it received.
+#[tactic(auto, unfolding(crate::specs::Rings::first_size))]
 fn first_ends(alloc: Global, slots: u32, ring: u32) -> Result<(CallerEnds, WorkerEnds), NoMemory>
     requires slots { IsBatchSize slots }
     requires ring { IsRingLength ring }

@@ -1,6 +1,7 @@
 //! What makes such rails, and takes them back.
 
 ghost use Rattle.std.specs.Prelude.{◌≡◌, ℕ, ◌<◌, [], Some, None, IfOk, IfErr, OnErr};
+ghost use Rattle.std.specs.Thread.{IsSync};
 ghost use Rattle.rtrb.specs.Ring.{sent};
 ghost use Rattle.batch_pack.specs.Batch.{IsBatchSize};
 ghost use Rattle.batch_rail.specs.declared.maker.RailKind.TheVariants.{Epoch};
@@ -12,11 +13,10 @@ use crate::crew::Crew;
 use crate::launch::new_ends;
 use crate::parts::{EpochMaker, EpochPart};
 use crate::rail::EpochRail;
-use crate::stage::Stage;
-use crate::work::Work;
 use batch_rail::{RailKind, WaitMaker, WaitPart, WaitRail};
 use driver_trait::{Machine, WaitDriver};
-use std::alloc::{AllocError as NoMemory, Global};
+use std::alloc::{AllocError, AllocError as NoMemory, Global};
+use std::marker::PhantomData;
 use std::sync::Wait;
 use std::thread::Threads;
 
@@ -25,11 +25,14 @@ impl<D: Machine, C: Crew<D>> EpochMaker<D, C> {
     pub fn new(crew: C) -> EpochMaker<D, C>
         requires ready { C.ready crew }
     {
-        EpochMaker { crew }
+        EpochMaker {
+            crew,
+            of: PhantomData,
+        }
     }
 }
 
-impl<D: WaitDriver, C: Crew<D> + Send> WaitMaker<D> for EpochMaker<D, C> {
+impl<D: WaitDriver + Send, C: Crew<D> + Send> WaitMaker<D> for EpochMaker<D, C> {
     type Part = EpochPart<D, C>;
 
     ghost kind_of = { λ maker. Epoch };
@@ -45,6 +48,7 @@ impl<D: WaitDriver, C: Crew<D> + Send> WaitMaker<D> for EpochMaker<D, C> {
     {
         EpochPart {
             crew: self.crew.another(),
+            of: PhantomData,
         }
     }
 
@@ -77,19 +81,11 @@ impl<D: WaitDriver, C: Crew<D>> WaitPart<D> for EpochPart<D, C> {
             rail.caller.size rail.sent driver slots) }
         ensures err { IfErr result (λ refusal. refusal.0 ≡ driver) }
     {
-        match new_ends(alloc, slots, ring) {
-            Ok((caller, ends)) => Ok(EpochRail {
-                crew: self.crew.another(),
-                caller,
-                sent: 0,
-                stage: Some(Stage::Home(Work {
-                    driver,
-                    failed: false,
-                    ends,
-                })),
-            }),
-            Err(refusal) => Err((driver, refusal)),
-        }
+        let Ok((caller, ends)) = new_ends(alloc, slots, ring) else {
+            return Err((driver, AllocError));
+        };
+        let crew = self.crew.another();
+        Ok(EpochRail::over(crew, driver, caller, ends, slots))
     }
 
     fn close<T: Threads + Sync, W: Wait>(
@@ -98,6 +94,7 @@ impl<D: WaitDriver, C: Crew<D>> WaitPart<D> for EpochPart<D, C> {
         wait: &W,
         rail: EpochRail<D, C>,
     ) -> Result<D, NoMemory>
+        requires shared { IsSync T.row }
         requires home { C.ready rail.crew × IsHome C.Worker.was rail.stage rail.caller }
         ensures ok { IfOk result
             (λ driver. StandsFor D.steps C.Worker.was rail.stage (sent rail.caller.filled) driver) }

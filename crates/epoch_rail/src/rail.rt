@@ -4,15 +4,16 @@
 ghost use Rattle.std.specs.Prelude.{◌≡◌, ◌≢◌, ℕ, ◌+◌, ◌^◌, ◌<◌, ◌⊎◌, List, [], ◌∷◌, Option, Some, None, IfOk, OnErr, true};
 ghost use Rattle.std.specs.Thread.{IsSync};
 ghost use Rattle.rtrb.specs.Ring.{received, sent};
-ghost use Rattle.batch_pack.specs.Batch.{empty_batch};
+ghost use Rattle.batch_pack.specs.Batch.{empty_batch, IsBatchSize};
 ghost use Rattle.batch_rail.specs.Run.{RunsFrom};
 ghost use Rattle.batch_rail.specs.Rail.{Gains, StandsForNoMore};
-ghost use Rattle.epoch_rail.specs.Ends.{AreFellows, SameCaller};
+ghost use Rattle.batch_rail.specs.Maker.{IsLaunched, IsUnused};
+ghost use Rattle.epoch_rail.specs.Ends.{AreFellows, AreNew};
 ghost use Rattle.epoch_rail.specs.Rail.{StandsFor, FailsBy, IsHome, IsTaken, IsWorkOf, LeadsTo, MayFail};
 
 use crate::carry::settled;
 use crate::crew::{Begun, Crew};
-use crate::ends::CallerEnds;
+use crate::ends::{CallerEnds, WorkerEnds};
 use crate::stage::Stage;
 use crate::work::Work;
 use batch_pack::Batch;
@@ -46,6 +47,40 @@ impl<D: Machine, C: Crew<D>> RailState<D> for EpochRail<D, C> {
     ghost sent = { λ rail. rail.sent };
 
     ghost journal = { λ rail. None };
+}
+
+impl<D: Machine, C: Crew<D>> EpochRail<D, C> {
+    /// A rail over a driver, with the ends of new rings.
+    pub(crate) fn over(
+        crew: C,
+        driver: D,
+        caller: CallerEnds,
+        ends: WorkerEnds,
+        slots: u32,
+    ) -> EpochRail<D, C>
+        requires ready { C.ready crew }
+        requires slots { IsBatchSize slots }
+        requires ends { AreNew caller ends slots }
+        ensures launched { IsLaunched D.tracked
+            (StandsFor D.steps C.Worker.was result.stage (sent result.caller.filled))
+            (FailsBy C.Worker.was result.stage (sent result.caller.filled))
+            (C.ready result.crew × IsHome C.Worker.was result.stage result.caller)
+            result.caller.size (D.tracked driver) }
+        ensures unused { IsUnused
+            (StandsFor D.steps C.Worker.was result.stage (sent result.caller.filled))
+            result.caller.size result.sent driver slots }
+    {
+        EpochRail {
+            crew,
+            caller,
+            sent: 0,
+            stage: Some(Stage::Home(Work {
+                driver,
+                failed: false,
+                ends,
+            })),
+        }
+    }
 }
 
 impl<D: WaitDriver, C: Crew<D>> WaitRail<D> for EpochRail<D, C> {

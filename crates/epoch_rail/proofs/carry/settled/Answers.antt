@@ -11,4 +11,4 @@ loop-work-init g c = (
 
 pub returns-clause-fellows : goal.returns-clause-fellows
 returns-clause-fellows g c =
-    AreFellows-later c.args.caller.now c.see_all.new.caller c.args.left.ends _ c.requires.fellows c.see_all.ensures.caller ?
+    AreFellows-later c.args.caller.now c.see_all.new.caller c.args.left.ends c.loop-work.work.ends c.requires.fellows c.see_all.ensures.caller (c.loop-work.invariant.0.same)
