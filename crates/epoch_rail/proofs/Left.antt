@@ -1,5 +1,5 @@
 -- What is left to a work, after more was sent and after some was carried out.
-use Rattle.std.proofs.Common.{◌≡◌, ◌≢◌, ℕ, zero, suc, ◌+◌, ◌≤◌, ◌⊎◌, inl, inr, Bool, true, false, List, [], ◌∷◌, ◌++◌, length, map, drop, flat_map, Option, Some, None, refl, sym, ap, subst, ◌∙◌, arith, append-nil, append_assoc}
+use Rattle.std.proofs.Common.{◌≡◌, ◌≢◌, ℕ, zero, suc, ◌+◌, ◌≤◌, ◌⊎◌, inl, inr, true, false, List, [], ◌∷◌, ◌++◌, length, map, drop, flat_map, Option, Some, None, refl, sym, ap, subst, ◌∙◌, arith, append-nil, append_assoc}
 use Rattle.std.proofs.lemmas.List.{length-append, drop-append-le, drop_all}
 use Rattle.std.proofs.lemmas.Grind.{flat_map-append}
 use Rattle.std.specs.List.{slice_get}
@@ -85,8 +85,8 @@ module _ {S : Type 0} (steps : Steps S) where
       let one_more : length batches + count + 1 ≡ length batches + suc count = omega arith in
       subst (λ (n : ℕ). RunFirst steps start (batches ++ more) n st2) one_more
       (RunFirst-next steps start (batches ++ more) (length batches + count) last batch st2
-          (RunFirst-append start mid batches more count last first others)
-          (slice_get-behind batches more (length batches + count) count refl ∙ stands) run)
+      (RunFirst-append start mid batches more count last first others)
+      (slice_get-behind batches more (length batches + count) count refl ∙ stands) run)
 
   pub RunAll-append : (start mid st2 : S) (batches more : List (List Spelled)) → RunAll steps start batches mid → RunAll steps mid more st2 → RunAll steps start (batches ++ more) st2
   RunAll-append start mid st2 batches more first second =
@@ -95,9 +95,11 @@ module _ {S : Type 0} (steps : Steps S) where
   -- a work leads where it led before some of it was carried out
   LeadsTo-carried : (work after : Work S) (rest batches : List BatchView) (st : S) → Carried steps work after → received after.ends.filled ++ rest ≡ batches → LeadsTo steps after batches st → LeadsTo steps work batches st
   LeadsTo-carried work after rest batches st carried whole (sound, run) =
-      let first = carried.runs sound in
-      (first.0, subst (λ (bs : List (List Spelled)). RunAll steps work.driver bs st) (sym (left_of-carried work after carried.ran rest batches carried.took whole))
-          (RunAll-append work.driver after.driver st (calls_of carried.ran) (left_of after batches) (first.1) run))
+      let first = carried.runs sound in (
+        first.0,
+        subst (λ (bs : List (List Spelled)). RunAll steps work.driver bs st) (sym (left_of-carried work after carried.ran rest batches carried.took whole))
+            (RunAll-append work.driver after.driver st (calls_of carried.ran) (left_of after batches) (first.1) run),
+      )
 
   MayFail-cause : (work : Work S) (batches : List BatchView) (ran more : List (List Spelled)) → left_of work batches ≡ ran ++ more → (work.failed ≡ true) ⊎ HaveCall ran → MayFail work batches
   MayFail-cause work batches ran more is (inl before) = inl before

@@ -1,5 +1,5 @@
 -- What a worker carries out, batch by batch.
-use Rattle.std.proofs.Common.{◌≡◌, ◌≢◌, ℕ, ◌+◌, ◌⊎◌, inl, inr, Bool, true, false, List, [], ◌∷◌, ◌++◌, length, map, flat_map, Some, refl, sym, ap, subst, ◌∙◌, arith, append-nil, append_assoc}
+use Rattle.std.proofs.Common.{◌≡◌, ◌≢◌, ℕ, ◌+◌, ◌⊎◌, inl, inr, Bool, true, List, [], ◌∷◌, ◌++◌, length, flat_map, Some, refl, sym, ap, subst, ◌∙◌, append-nil, append_assoc}
 use Rattle.std.proofs.lemmas.List.{length-append, map-append}
 use Rattle.std.proofs.lemmas.Grind.{flat_map-append}
 use Rattle.std.specs.List.{slice_get}
@@ -14,7 +14,7 @@ use Rattle.batch_rail.proofs.BatchRuns.{RunFirst-next, RunFirst-more, RunFirst-l
 use Rattle.epoch_rail.specs.Ends.{SameWorker, SameCaller}
 use Rattle.epoch_rail.specs.declared.ends.WorkerEnds.{WorkerEnds}
 use Rattle.epoch_rail.specs.declared.ends.CallerEnds.{CallerEnds}
-use Rattle.epoch_rail.specs.Work.{calls_of, RunAll, HaveCall, CarriedOne, Carried, GoesOn}
+use Rattle.epoch_rail.specs.Work.{calls_of, RunAll, HaveCall, CarriedOne, Carried}
 use Rattle.epoch_rail.specs.declared.work.Work.{Work}
 
 -- the calls of one batch more
@@ -91,6 +91,7 @@ HaveCall-on failed ran batch (inr have) = inr (subst HaveCall (sym (calls_of-pus
 HaveCall-either : {mark : Bool} (failed : Bool) (ran : List BatchView) (batch : BatchView) → (mark ≡ true) ⊎ (batch.calls ≢ []) → (mark ≡ true → (failed ≡ true) ⊎ HaveCall (calls_of ran)) → (failed ≡ true) ⊎ HaveCall (calls_of (ran ++ batch ∷ []))
 HaveCall-either failed ran batch (inr have) earlier = inr (subst HaveCall (sym (calls_of-push ran batch)) (HaveCall-last (calls_of ran) batch.calls have))
 HaveCall-either failed ran batch (inl before) earlier = HaveCall-on failed ran batch (earlier before)
+
 module _ {S : Type 0} (steps : Steps S) where
   -- one batch more is carried out
   pub RunAll-push : (start mid st2 : S) (batches : List (List Spelled)) (batch : List Spelled) → RunAll steps start batches mid → Run steps mid batch st2 → RunAll steps start (batches ++ batch ∷ []) st2
@@ -126,9 +127,11 @@ module _ {S : Type 0} (steps : Steps S) where
     same = SameWorker-then start.ends before.ends after.ends carried.same (SameWorker-then before.ends mid after.ends first second);
     runs = λ sound.
         let last = one.runs sound in
-        let others = carried.runs (last.0) in
-        (others.0, subst (λ (bs : List (List Spelled)). RunAll steps start.driver bs after.driver) (sym (calls_of-push carried.ran batch))
-            (RunAll-push start.driver before.driver after.driver (calls_of carried.ran) batch.calls (others.1) (last.1)));
+        let others = carried.runs (last.0) in (
+          others.0,
+          subst (λ (bs : List (List Spelled)). RunAll steps start.driver bs after.driver) (sym (calls_of-push carried.ran batch))
+              (RunAll-push start.driver before.driver after.driver (calls_of carried.ran) batch.calls (others.1) (last.1)),
+        );
     cause = λ failed. HaveCall-either start.failed carried.ran batch (one.cause failed) carried.cause;
   }
 

@@ -1,5 +1,5 @@
 -- What a rail whose batches a worker carries out stands for; own.
-use Rattle.std.specs.Prelude.{◌≡◌, ℕ, ◌≤◌, ◌⊎◌, Bool, true, false, List, length, drop, Option, Some, None}
+use Rattle.std.specs.Prelude.{◌≡◌, ◌≤◌, ◌⊎◌, true, false, List, length, drop, Option, Some, None}
 use Rattle.rtrb.specs.Ring.{received, sent}
 use Rattle.batch_pack.specs.Batch.{BatchView}
 use Rattle.batch_pack.specs.Spelling.{Spelled}

@@ -1,5 +1,5 @@
 -- What a worker carries out; own.
-use Rattle.std.specs.Prelude.{◌≡◌, ◌≢◌, ℕ, ◌⊎◌, Bool, true, false, List, [], ◌++◌, map, length, flat_map}
+use Rattle.std.specs.Prelude.{◌≡◌, ◌≢◌, ◌⊎◌, Bool, true, false, List, [], ◌++◌, map, length, flat_map}
 use Rattle.rtrb.specs.Ring.{received}
 use Rattle.epoch_rail.specs.Ends.{SameWorker}
 use Rattle.batch_pack.specs.Batch.{BatchView}

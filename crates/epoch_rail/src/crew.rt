@@ -70,10 +70,7 @@ fn carry_all_there<T: Threads + Wait + Copy + Sync, D: WaitDriver>(rt: T, work: 
 
 /// Starts a worker in a thread of its own, which carries out batches as they come until the interval ends. Where no
 /// thread can be started, the interval ends at once, and the caller does the same.
-pub fn start<
-    T: Threads + Wait + Copy + Send + Sync + 'static,
-    D: WaitDriver + Send + 'static,
->(
+pub fn start<T: Threads + Wait + Copy + Send + Sync + 'static, D: WaitDriver + Send + 'static>(
     rt: T,
     work: Work<D>,
 ) -> Result<PromisedHandle<Work<D>, Interval<D>>, Work<D>>

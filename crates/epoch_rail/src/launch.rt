@@ -38,8 +38,10 @@ fn first_ends(alloc: Global, slots: u32, ring: u32) -> Result<(CallerEnds, Worke
     ensures { IfOk result (λ ends. AreNew ends.0 ends.1 slots) }
 {
     let (mut to, mut filled) = RingBuffer::with_protocol::<Global, Filled>(alloc, ring as usize)?;
-    let (mut emptied, mut from) =
-        RingBuffer::with_protocol::<Global, Emptied>(alloc, ring as usize)?;
+    let (mut emptied, mut from) = RingBuffer::with_protocol::<Global, Emptied>(
+        alloc,
+        ring as usize,
+    )?;
     let ending = Arc::new(alloc, AtomicBool::new(false))?;
     let theirs = Arc::try_clone(&ending)?;
     to.push_reserved(Batch::new(alloc, slots)?);

@@ -25,7 +25,7 @@ returns-in-Some-Away-clause-stands g c = λ st leads.
     let s = c.settled-in-Some-Away.ensures in
     subst (λ stage. StandsFor g.D.Machine.steps g.H.Begun.was stage (sent c.args.caller.now.filled) st) (sym is)
     (LeadsTo-twice g.D.Machine.steps (g.H.Begun.was c.in-Some-Away.worker) c.end.result c.settled-in-Some-Away.result (sent c.args.caller.now.filled) (sent c.settled-in-Some-Away.new.caller.filled) st
-        c.end.ensures s.carried s.all s.sent leads)
+    c.end.ensures s.carried s.all s.sent leads)
 
 pub returns-in-Some-Away-clause-failed : goal.returns-in-Some-Away-clause-failed
 returns-in-Some-Away-clause-failed g c = λ fails.
@@ -33,4 +33,4 @@ returns-in-Some-Away-clause-failed g c = λ fails.
     let s = c.settled-in-Some-Away.ensures in
     subst (λ stage. FailsBy g.H.Begun.was stage (sent c.args.caller.now.filled)) (sym is)
     (MayFail-twice g.D.Machine.steps (g.H.Begun.was c.in-Some-Away.worker) c.end.result c.settled-in-Some-Away.result (sent c.args.caller.now.filled) (sent c.settled-in-Some-Away.new.caller.filled)
-        c.end.ensures s.carried s.all s.sent (inl fails))
+    c.end.ensures s.carried s.all s.sent (inl fails))

@@ -15,5 +15,5 @@ pub returns-in-Ok-clause-empty : goal.returns-in-Ok-clause-empty
 returns-in-Ok-clause-empty c =
     empty_batch-of c.args.self.now.size c.in-Ok.batch
     (size-popped c.args.self.now.size (received c.args.self.now.emptied) (known_items c.args.self.now.emptied) (known_items c.pop.new.self) c.in-Ok.batch
-        c.args.self.now.given (c.in-Ok.ensures.ok.1) (c.in-Ok.ensures.ok.2.0))
+    c.args.self.now.given (c.in-Ok.ensures.ok.1) (c.in-Ok.ensures.ok.2.0))
     (c.in-Ok.ensures.ok.2.1)

@@ -1,4 +1,4 @@
-use Rattle.std.proofs.Common.{◌≡◌, ◌++◌, ◌∷◌, [], rules, ap, ◌∙◌, subst}
+use Rattle.std.proofs.Common.{◌≡◌, ◌++◌, ◌∷◌, [], rules, subst}
 use Rattle.rtrb.specs.Ring.{sent}
 use Rattle.epoch_rail.specs.Rail.{StandsFor, FailsBy}
 use Rattle.epoch_rail.proofs.Left.{StandsFor-sent, FailsBy-sent}
