@@ -130,7 +130,8 @@ fn by_workers<T: Threads + Wait + Copy + Send + Sync + 'static>(
 ) -> Result<Outcome, NoMemory>
     requires ring { IsRingLength ring }
 {
-    let run = move |work: Work<Limited>| start(rt, work);
+    let lent = &rt;
+    let run = move |work: Work<Limited>| start(*lent, work);
     let mut maker = EpochMaker::<Limited, _>::new(Starts::by(run));
     by_part(&rt, alloc, &mut maker, room, ring)
 }
