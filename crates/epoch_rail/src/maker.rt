@@ -13,7 +13,7 @@ use crate::crew::Crew;
 use crate::launch::new_ends;
 use crate::parts::{EpochMaker, EpochPart};
 use crate::rail::EpochRail;
-use batch_rail::{RailKind, WaitMaker, WaitPart, WaitRail};
+use batch_rail::{RailKind, RailLender, RailUser, WaitMaker, WaitPart, WaitRail};
 use driver_trait::{Machine, WaitDriver};
 use std::alloc::{AllocError, AllocError as NoMemory, Global};
 use std::marker::PhantomData;
@@ -55,10 +55,33 @@ impl<D: WaitDriver + Send, C: Crew<D> + Send> WaitMaker<D> for EpochMaker<D, C> 
     fn join(&mut self, context: u32, part: EpochPart<D, C>) {}
 }
 
+impl<D: WaitDriver, C: Crew<D>> RailLender<D> for EpochPart<D, C> {
+    ghost journal = { λ part. None };
+
+    fn with_rail<T: Threads + Sync, W: Wait, U: RailUser<D>>(
+        &mut self,
+        rt: &T,
+        wait: &W,
+        alloc: Global,
+        driver: D,
+        slots: u32,
+        ring: u32,
+        user: U,
+    ) -> Result<(D, U::Out), NoMemory> {
+        let rail = match self.launch(rt, wait, alloc, driver, slots, ring) {
+            Ok(rail) => rail,
+            Err((_driver, refusal)) => return Err(refusal),
+        };
+        let (rail, used) = user.use_rail(rt, wait, alloc, rail, slots);
+        let closed = self.close(rt, wait, rail);
+        let out = used?;
+        let driver = closed?;
+        Ok((driver, out))
+    }
+}
+
 impl<D: WaitDriver, C: Crew<D>> WaitPart<D> for EpochPart<D, C> {
     type Made = EpochRail<D, C>;
-
-    ghost journal = { λ part. None };
 
     fn launch<T: Threads + Sync, W: Wait>(
         &mut self,

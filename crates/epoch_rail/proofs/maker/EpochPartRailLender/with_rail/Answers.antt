@@ -1,0 +1,17 @@
+use Rattle.std.proofs.Common.{rules, None, refl}
+use Rattle.rtrb.specs.Ring.{sent}
+use Rattle.batch_rail.specs.Part.{IsUsed}
+use Rattle.batch_rail.proofs.Lending.{Gains-same, IsUsed-closed}
+use Rattle.epoch_rail.specs.Rail.{StandsFor}
+use Rattle.epoch_rail.proofs.maker.EpochPartRailLender.with_rail.Goals as goal
+
+pub returns-clause-ok : goal.returns-clause-ok
+returns-clause-ok g c =
+    let rail = c.in-Ok.rail in
+    let back = c.use_rail-rail.result.0 in
+    let untold = Gains-same None None refl in
+    let before = StandsFor g.D.Machine.steps g.C.Worker.Begun.was rail.stage (sent rail.caller.filled) in
+    let after = StandsFor g.D.Machine.steps g.C.Worker.Begun.was back.stage (sent back.caller.filled) in
+    let used : IsUsed (g.U.RailUser.leads c.args.user c.args.slots c.in_ok-out.out) before after None None = search rules in
+    IsUsed-closed None None None None untold untold (g.U.RailUser.leads c.args.user c.args.slots c.in_ok-out.out) before after c.args.driver c.in_ok-driver.driver
+    c.in-Ok.ensures.unused.only c.in_ok-driver.ensures.ok used
