@@ -1,6 +1,8 @@
 //! A driver and a crew for tests.
 
+ghost use Rattle.std.specs.Prelude.{◌≡◌, IfOk, IfErr};
 ghost use Rattle.driver_trait.specs.Recorder.{RecorderSteps};
+ghost use Rattle.epoch_rail.specs.Work.{Carried};
 ghost use Rattle.driver_trait.specs.Recording.{recorder_is_driver};
 
 use driver_trait::{Machine, Recorder, Reply, WaitDriver};
@@ -62,7 +64,10 @@ impl Crew<Limited> for NoThread {
     fn begin(
         &self,
         work: Work<Limited>,
-    ) -> Result<PromisedHandle<Work<Limited>, Interval<Limited>>, Work<Limited>> {
+    ) -> Result<PromisedHandle<Work<Limited>, Interval<Limited>>, Work<Limited>>
+        ensures ok { IfOk result (λ worker. worker.promise.was.value ≡ work) }
+        ensures err { IfErr result (λ back. Carried RecorderSteps work back) }
+    {
         Err(work)
     }
 
