@@ -109,7 +109,7 @@ pub(crate) fn replay_over<T: Threads + Sync, R: RailMaker<Soft>>(
 }
 
 /// Replays over any maker whose rails are inline, by the call that may wait.
-pub(crate) fn wait_over<T: Threads + Sync, W: Wait, R: WaitMaker<Soft>>(
+fn wait_over<T: Threads + Sync, W: Wait, R: WaitMaker<Soft>>(
     rt: &T,
     wait: &W,
     alloc: Global,
