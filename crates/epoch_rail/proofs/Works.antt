@@ -1,5 +1,5 @@
 -- What a worker carries out, batch by batch.
-use Rattle.std.proofs.Common.{◌≡◌, ◌≢◌, ℕ, ◌+◌, ◌⊎◌, inl, inr, Bool, true, List, [], ◌∷◌, ◌++◌, length, flat_map, Some, refl, sym, ap, subst, ◌∙◌, append-nil, append_assoc}
+use Rattle.std.proofs.Common.{◌≡◌, ◌≢◌, ℕ, ◌+◌, ◌⊎◌, inl, inr, Bool, true, false, List, [], ◌∷◌, ◌++◌, length, flat_map, Some, refl, sym, ap, subst, ◌∙◌, append-nil, append_assoc}
 use Rattle.std.proofs.lemmas.List.{length-append, map-append}
 use Rattle.std.proofs.lemmas.Grind.{flat_map-append}
 use Rattle.std.specs.List.{slice_get}
@@ -9,12 +9,12 @@ use Rattle.rtrb.specs.declared.producer.Producer.{Producer}
 use Rattle.batch_pack.specs.Batch.{BatchView}
 use Rattle.batch_pack.specs.Spelling.{Spelled}
 use Rattle.driver_trait.specs.Driver.{Steps}
-use Rattle.batch_rail.specs.Run.{Run, RunFirst}
+use Rattle.batch_rail.specs.Run.{Run, RunFirst, StopsInside}
 use Rattle.batch_rail.proofs.BatchRuns.{RunFirst-next, RunFirst-more, RunFirst-last}
 use Rattle.epoch_rail.specs.Ends.{SameWorker, SameCaller}
 use Rattle.epoch_rail.specs.declared.ends.WorkerEnds.{WorkerEnds}
 use Rattle.epoch_rail.specs.declared.ends.CallerEnds.{CallerEnds}
-use Rattle.epoch_rail.specs.Work.{calls_of, RunAll, HaveCall, CarriedOne, Carried}
+use Rattle.epoch_rail.specs.Work.{calls_of, RunAll, HaveCall, CarriedOne, StopsAmong, Carried}
 use Rattle.epoch_rail.specs.declared.work.Work.{Work}
 
 -- the calls of one batch more
@@ -115,7 +115,39 @@ module _ {S : Type 0} (steps : Steps S) where
     same = record { filled = ((refl, refl, refl, refl), refl); emptied = ((refl, refl, refl, refl), refl); size = refl };
     runs = λ sound. (sound, refl);
     cause = λ failed. inl failed;
+    stops = λ sound failed. absurd (cc);
+    stays = λ failed. (failed, refl);
   }
+
+  -- a worker that stopped among some batches stopped among more
+  StopsAmong-push : (start here after : S) (batches : List (List Spelled)) (batch : List Spelled) → StopsAmong steps start batches here → after ≡ here → StopsAmong steps start (batches ++ batch ∷ []) after
+  StopsAmong-push start here after batches batch stopped same = record {
+    done = stopped.done;
+    refused = stopped.refused;
+    left_out = stopped.left_out ++ batch ∷ [];
+    whole = ap (λ (bs : List (List Spelled)). bs ++ batch ∷ []) stopped.whole ∙ append_assoc stopped.done (stopped.refused ∷ stopped.left_out) (batch ∷ []);
+    reached = stopped.reached;
+    run = stopped.run;
+    stops = subst (λ (st : S). StopsInside steps stopped.reached stopped.refused st) (sym same) stopped.stops;
+  }
+
+  -- one that stopped in the last batch stopped among all
+  StopsAmong-last : (start mid here : S) (batches : List (List Spelled)) (batch : List Spelled) → RunAll steps start batches mid → StopsInside steps mid batch here → StopsAmong steps start (batches ++ batch ∷ []) here
+  StopsAmong-last start mid here batches batch run stopped = record {
+    done = batches;
+    refused = batch;
+    left_out = [];
+    whole = refl;
+    reached = mid;
+    run = run;
+    stops = stopped;
+  }
+
+  -- in the last batch, or before it
+  StopsAmong-either : (start mid after : S) (failed mark fails : Bool) (batches : List (List Spelled)) (batch : List Spelled) → (mark ≡ false → (failed ≡ false) × RunAll steps start batches mid)
+      → (failed ≡ false → mark ≡ true → StopsAmong steps start batches mid) → CarriedOne steps mark mid batch fails after → failed ≡ false → fails ≡ true → StopsAmong steps start (batches ++ batch ∷ []) after
+  StopsAmong-either start mid after failed true fails batches batch runs stops one sound refused = StopsAmong-push start mid after batches batch (stops sound refl) ((one.stays refl).1)
+  StopsAmong-either start mid after failed false fails batches batch runs stops one sound refused = StopsAmong-last start mid after batches batch ((runs refl).1) (one.stops refl refused)
 
   -- a worker carried out one batch more
   pub Carried-push : (start before after : Work S) (mid : WorkerEnds) (batch : BatchView) → Carried steps start before
@@ -133,6 +165,13 @@ module _ {S : Type 0} (steps : Steps S) where
               (RunAll-push start.driver before.driver after.driver (calls_of carried.ran) batch.calls (others.1) (last.1)),
         );
     cause = λ failed. HaveCall-either start.failed carried.ran batch (one.cause failed) carried.cause;
+    stops = λ sound failed.
+        subst (λ (bs : List (List Spelled)). StopsAmong steps start.driver bs after.driver) (sym (calls_of-push carried.ran batch))
+        (StopsAmong-either start.driver before.driver after.driver start.failed before.failed after.failed (calls_of carried.ran) batch.calls carried.runs carried.stops one sound failed);
+    stays = λ failed.
+        let earlier = carried.stays failed in
+        let last = one.stays (earlier.0) in
+        (last.0, last.1 ∙ earlier.1);
   }
 
   -- or none
@@ -144,4 +183,6 @@ module _ {S : Type 0} (steps : Steps S) where
     same = SameWorker-then start.ends before.ends after.ends carried.same same;
     runs = λ sound. let all = carried.runs (sym failed ∙ sound) in (all.0, subst (λ (st : S). RunAll steps start.driver (calls_of carried.ran) st) (sym driver) (all.1));
     cause = λ fails. carried.cause (sym failed ∙ fails);
+    stops = λ sound fails. subst (λ (st : S). StopsAmong steps start.driver (calls_of carried.ran) st) (sym driver) (carried.stops sound (sym failed ∙ fails));
+    stays = λ fails. let all = carried.stays fails in (failed ∙ all.0, driver ∙ all.1);
   }

@@ -1,11 +1,11 @@
 -- What a worker carries out; own.
-use Rattle.std.specs.Prelude.{◌≡◌, ◌≢◌, ◌⊎◌, Bool, true, false, List, [], ◌++◌, map, length, flat_map}
+use Rattle.std.specs.Prelude.{◌≡◌, ◌≢◌, ◌⊎◌, Bool, true, false, List, [], ◌∷◌, ◌++◌, map, length, flat_map}
 use Rattle.rtrb.specs.Ring.{received}
 use Rattle.epoch_rail.specs.Ends.{SameWorker}
 use Rattle.batch_pack.specs.Batch.{BatchView}
 use Rattle.batch_pack.specs.Spelling.{Spelled}
 use Rattle.driver_trait.specs.Driver.{Steps}
-use Rattle.batch_rail.specs.Run.{Run, RunFirst}
+use Rattle.batch_rail.specs.Run.{Run, RunFirst, StopsInside}
 use Rattle.epoch_rail.specs.declared.work.Work.{Work}
 
 -- the calls of each batch; own
@@ -24,14 +24,28 @@ HaveCall batches = flat_map (λ (calls : List Spelled). calls) batches ≢ []
 pub record CarriedOne {S : Type 0} (steps : Steps S) (failed : Bool) (driver : S) (calls : List Spelled) (fails : Bool) (after : S) : Type 0 where
   pub runs : fails ≡ false → (failed ≡ false) × Run steps driver calls after
   pub cause : fails ≡ true → (failed ≡ true) ⊎ (calls ≢ [])
+  pub stops : failed ≡ false → fails ≡ true → StopsInside steps driver calls after
+  pub stays : failed ≡ true → (fails ≡ true) × (after ≡ driver)
 
--- between two times a worker received these batches and carried them out in order, each once, unless one failed; own
+-- a state that was reached by the first batches of a list, and inside the next one: nothing behind the call that was refused was carried out; own
+pub record StopsAmong {S : Type 0} (steps : Steps S) (start : S) (batches : List (List Spelled)) (here : S) : Type 0 where
+  pub done : List (List Spelled)
+  pub refused : List Spelled
+  pub left_out : List (List Spelled)
+  pub whole : batches ≡ done ++ refused ∷ left_out
+  pub reached : S
+  pub run : RunAll steps start done reached
+  pub stops : StopsInside steps reached refused here
+
+-- between two times a worker received these batches and carried them out in order, each once, up to the call that was refused, if one was, and none if one had been; own
 pub record Carried {S : Type 0} (steps : Steps S) (before after : Work S) : Type 0 where
   pub ran : List BatchView
   pub took : received after.ends.filled ≡ received before.ends.filled ++ ran
   pub same : SameWorker before.ends after.ends
   pub runs : after.failed ≡ false → (before.failed ≡ false) × RunAll steps before.driver (calls_of ran) after.driver
   pub cause : after.failed ≡ true → (before.failed ≡ true) ⊎ HaveCall (calls_of ran)
+  pub stops : before.failed ≡ false → after.failed ≡ true → StopsAmong steps before.driver (calls_of ran) after.driver
+  pub stays : before.failed ≡ true → (after.failed ≡ true) × (after.driver ≡ before.driver)
 
 -- what was carried out before goes on; own
 abbrev pub GoesOn : {S : Type 0} → Steps S → Work S → Work S → Type 0

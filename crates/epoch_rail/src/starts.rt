@@ -7,40 +7,55 @@ ghost use Rattle.epoch_rail.specs.declared.work.Work.{Work};
 use crate::crew::{Begun, Crew};
 use crate::work::Work;
 use driver_trait::Machine;
+use std::marker::PhantomData;
+use std::snapshot::Snapshot;
 
-/// Starts workers by a function, as by `move |work| start(rt, work)`; own.
+/// Starts workers by a function that is given a handle, as by `|rt, work| start(rt, work)`; own.
 #[derive(Drop)]
-pub struct Starts<F> {
+pub struct Starts<T, F, H> {
+    pub(crate) rt: T,
     pub(crate) run: F,
+    pub(crate) of: PhantomData<Snapshot<H>>,
 }
 
-impl<F> Starts<F> {
-    /// A crew that starts workers by this function.
-    pub fn by(run: F) -> Starts<F>
-        ensures { result.run ≡ run }
+impl<T, F, H> Starts<T, F, H> {
+    /// A crew that starts workers by this function, which is given this handle each time.
+    pub fn by<D>(rt: T, run: F) -> Starts<T, F, H>
+    where
+        F: Fn(T, Work<D>) -> Result<H, Work<D>>,
+        ensures { (result.rt ≡ rt) × (result.run ≡ run) }
     {
-        Starts { run }
+        Starts {
+            rt,
+            run,
+            of: PhantomData,
+        }
     }
 }
 
-impl<D: Machine, H: Begun<D>, F: Fn(Work<D>) -> Result<H, Work<D>> + Copy> Crew<D> for Starts<F> {
+impl<T: Copy, D: Machine, H: Begun<D>, F: Fn(T, Work<D>) -> Result<H, Work<D>> + Copy> Crew<D>
+    for Starts<T, F, H> {
     type Worker = H;
 
     ghost ready = { λ crew. F.IsAlwaysCallable crew.run
-        × ((work : Work D) (worker : H) → F.post crew.run work (Ok worker) → H.was worker ≡ work)
-        × ((work back : Work D) → F.post crew.run work (Err back) → Carried D.steps work back) };
+        × ((work : Work D) (worker : H) → F.post crew.run crew.rt work (Ok worker) → H.was worker ≡ work)
+        × ((work back : Work D) → F.post crew.run crew.rt work (Err back) → Carried D.steps work back) };
 
     fn begin(&self, work: Work<D>) -> Result<H, Work<D>>
         requires ready { F.IsAlwaysCallable self.now.run
-            × ((work : Work D) (worker : H) → F.post self.now.run work (Ok worker) → H.was worker ≡ work)
-            × ((work back : Work D) → F.post self.now.run work (Err back) → Carried D.steps work back) }
+            × ((work : Work D) (worker : H) → F.post self.now.run self.now.rt work (Ok worker) → H.was worker ≡ work)
+            × ((work back : Work D) → F.post self.now.run self.now.rt work (Err back) → Carried D.steps work back) }
         ensures ok { IfOk result (λ worker. H.was worker ≡ work) }
         ensures err { IfErr result (λ back. Carried D.steps work back) }
     {
-        (self.run)(work)
+        (self.run)(self.rt, work)
     }
 
-    fn another(&self) -> Starts<F> {
-        Starts { run: self.run }
+    fn another(&self) -> Starts<T, F, H> {
+        Starts {
+            rt: self.rt,
+            run: self.run,
+            of: PhantomData,
+        }
     }
 }
