@@ -4,7 +4,7 @@ use Rattle.std.specs.List.{list_all}
 use Rattle.std.specs.Str.{bytes_eq}
 use Rattle.batch_pack.specs.Batch.{IsBatchSize}
 use Rattle.batch_rail.specs.declared.maker.RailKind.{RailKind}
-use Rattle.batch_rail.specs.declared.maker.RailKind.TheVariants.{Inline}
+use Rattle.batch_rail.specs.declared.maker.RailKind.TheVariants.{Inline, Epoch}
 use Rattle.batch_rail.specs.Maker.{IsRingLength}
 use Rattle.script_reader.specs.Number.{decimal_of}
 use Rattle.replay_text.specs.declared.asked.Command.{Command}
@@ -39,7 +39,9 @@ ring_spelled word = decimal_within 1 64 word
 
 -- the values of `--rail`: the names of the rails that can be asked for; own
 unfoldable pub rail_spelled : List ℕ → Option RailKind
-rail_spelled word = if bytes_eq word (codes "inline") then Some Inline else None
+rail_spelled word =
+    if bytes_eq word (codes "inline") then Some Inline else (
+    if bytes_eq word (codes "epoch") then Some Epoch else None)
 
 -- the name is an option's, and the value one of its values; own
 unfoldable pub is_option : List ℕ × List ℕ → Bool
@@ -72,7 +74,7 @@ ring_of options = unwrap_or (option_and_then ring_spelled (value_given (codes "-
 
 -- the rail that options ask for, or the default; own
 unfoldable pub rail_asked : List (List ℕ × List ℕ) → RailKind
-rail_asked options = unwrap_or (option_and_then rail_spelled (value_given (codes "--rail") options)) Inline
+rail_asked options = unwrap_or (option_and_then rail_spelled (value_given (codes "--rail") options)) Epoch
 
 -- the command `run` with what these options ask for; own
 abbrev pub run_with : List (List ℕ × List ℕ) → Command
@@ -85,7 +87,7 @@ command_of (word ∷ words) =
     if bytes_eq word (codes "run") && are_options words then Some (run_with (pairs_of words)) else (
     if bytes_eq word (codes "direct") && (length words == 0) then Some Direct else None)
 
--- the rail of a command; own
+-- the rail of a command, and the one without threads for direct calls, which use none; own
 abbrev pub rail_in : Command → RailKind
 rail_in (Run batch ring rail) = rail
 rail_in Direct = Inline

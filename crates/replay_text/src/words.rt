@@ -49,6 +49,8 @@ fn rail_from(word: &[u8]) -> Option<RailKind>
 {
     if word == b"inline".as_slice() {
         Some(RailKind::Inline)
+    } else if word == b"epoch".as_slice() {
+        Some(RailKind::Epoch)
     } else {
         None
     }
@@ -129,8 +131,8 @@ fn rail_in(words: &[String]) -> RailKind
     ensures { result ≡ rail_asked (pairs_of (texts_of words.now)) }
 {
     match value_given(words, b"--rail".as_slice()) {
-        Some(value) => rail_from(value).unwrap_or(RailKind::Inline),
-        None => RailKind::Inline,
+        Some(value) => rail_from(value).unwrap_or(RailKind::Epoch),
+        None => RailKind::Epoch,
     }
 }
 

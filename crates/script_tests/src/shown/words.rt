@@ -17,23 +17,30 @@ fn words_of(alloc: Global, line: &str) -> Result<Vec<String>, AllocError> {
 #[test]
 fn options_come_in_any_order(rt: HostRuntime) -> Result<(), Fail> {
     let rows = [
-        ("run", 1024, 8),
-        ("run --rail inline", 1024, 8),
-        ("run --batch 16", 16, 8),
-        ("run --batch 0000008192", 8192, 8),
-        ("run --ring 1", 1024, 1),
-        ("run --ring 64 --batch 17", 17, 64),
-        ("run --rail inline --ring 2 --batch 100", 100, 2),
+        ("run", 1024, 8, RailKind::Epoch),
+        ("run --rail epoch", 1024, 8, RailKind::Epoch),
+        ("run --rail inline", 1024, 8, RailKind::Inline),
+        ("run --batch 16", 16, 8, RailKind::Epoch),
+        ("run --batch 0000008192", 8192, 8, RailKind::Epoch),
+        ("run --ring 1", 1024, 1, RailKind::Epoch),
+        ("run --ring 64 --batch 17", 17, 64, RailKind::Epoch),
+        ("run --ring 3 --rail epoch", 1024, 3, RailKind::Epoch),
+        (
+            "run --rail inline --ring 2 --batch 100",
+            100,
+            2,
+            RailKind::Inline,
+        ),
     ];
-    for (line, batch, ring) in &rows {
+    for (line, batch, ring, rail) in &rows {
         let words = words_of(rt.alloc(), line)?;
         let run = Command::Run {
             batch: *batch,
             ring: *ring,
-            rail: RailKind::Inline,
+            rail: *rail,
         };
         assert_eq!(rt; command(&words), Some(run), "{line}");
-        assert_eq!(rt; rail_of(&words), Some(RailKind::Inline), "{line}");
+        assert_eq!(rt; rail_of(&words), Some(*rail), "{line}");
     }
     Ok(())
 }
@@ -54,8 +61,9 @@ fn other_words_are_no_command(rt: HostRuntime) -> Result<(), Fail> {
         "runs",
         "--rail inline run",
         "run --rail",
-        "run --rail epoch",
+        "run --rail Epoch",
         "run --rail ring",
+        "run --rail epoch --rail inline",
         "run --rail inline inline",
         "run --rail inline --rail inline",
         "run --batch",
