@@ -35,16 +35,22 @@ run replays the script through the threaded layer. Its options may stand in any 
 
     --batch SLOTS     slots of eight bytes in a batch, 16 to 8192 (1024)
     --ring BATCHES    batches on their way at once, 1 to 64 (8)
-    --rail RAIL       how batches are handed over: inline (inline)
+    --rail RAIL       how batches are handed over: epoch, inline (epoch)
+
+With epoch a worker in a thread of its own carries batches out while the script goes on. A new one is started behind each
+call that waits, so that a script with many of these is quicker with inline, where each batch is carried out as it is
+handed over, and --ring has no use. Report and images are the same with both.
 
 direct carries out each call as its line is read, and its report has no line of counts.
+
+Exit statuses and the form of scripts and reports are told in docs/FORMATS.md.
 """
 BAD_WORDS = b"glreplay: bad words\n"
 READ_FAULT = b"glreplay: read fault\n"
 WRITE_FAULT = b"glreplay: write fault\n"
 NO_MEMORY = b"glreplay: no memory\n"
 PIPES = {"stdout": subprocess.PIPE, "stderr": subprocess.PIPE}
-RAILS = ("inline",)
+RAILS = ("epoch", "inline")
 # Takes two images of client memory, the second by the name of the first and once the frame was read into it.
 SHOTS = b"""glscript 1
 context 0 1 1 4
@@ -265,7 +271,9 @@ def large_things(folder):
     # 200 KB of calls, of which the last colour counts. Each has five slots: three are a batch of 16, 204 one of 1024.
     lines = [f"0 ClearColorx {k} 65536 0 65536" for k in range(6999)]
     script = script_of(4, 0, lines + ["0 ClearColorx 65536 0 0 65536", "0 Clear COLOR_BUFFER_BIT"])
-    for words, batches in ((["run"], 35), (["run", "--batch", "16"], 2334)):
+    sizes = ([], ["--batch", "16"], ["--batch", "16", "--ring", "1"])
+    given = [["run", "--rail", rail, *size] for rail in RAILS for size in sizes]
+    for words, batches in ((words, 2334 if "16" in words else 35) for words in [["run"], *given]):
         report = report_of([], f"7001 0 0 {batches}", 1)
         writes = subprocess.Popen([PROGRAM, *words], cwd=emptied(folder), stdin=subprocess.PIPE, **PIPES)
         try:
@@ -322,19 +330,20 @@ def options(folder):
             (rail, (2, b"", BAD_WORDS)),
         ):
             wants(f"run {given}", run(["run", *given.split()], script, folder), wanted)
-    for given in ("run --rail", "run --rail none", "direct --batch 16", "direct direct"):
+    for given in ("run --rail", "run --rail none", "run --rail ring", "direct --batch 16", "direct direct"):
         wants(given, run(given.split(), script, folder), (2, b"", BAD_WORDS))
+    wants("run", run(["run"], script, folder), (0, large, b""))
     wants("run --batch 16", run(["run", "--batch", "16"], script, folder), (0, small, b""))
     wants("direct", run(["direct"], script, folder), (0, without_counts(large), b""))
     emptied(folder)
 
 
 def examples(folder):
-    """Each script prints what stands beside it, and puts the images that stand above."""
+    """Each script prints what stands beside it over each rail, and puts the images that stand above."""
     scripts = sorted(EXAMPLES.glob("*.gls"))
     for path in scripts:
         script, wanted = path.read_bytes(), path.with_suffix(".txt").read_bytes()
-        words = ["--rail", "inline"]
+        words = []
         for line in script.decode().splitlines():
             if line.startswith(f"# ./run examples/{path.name}"):
                 words = line.split()[3:]
@@ -348,6 +357,10 @@ def examples(folder):
             wants(f"{path.name}, {name}: the head", (head, most), (b"P6", b"255"))
             given[name.removesuffix(".ppm")] = f"{size.decode()} {pixels.hex()}"
         wants(f"{path.name}: the images", given, EXAMPLE_IMAGES.get(path.stem))
+        for rail in RAILS:
+            over = run(["run", *words, "--rail", rail], script, emptied(folder))
+            wants(f"{path.name} over {rail}", over, (status, report, told))
+            wants(f"{path.name}: the images over {rail}", files_in(folder), images)
         run(["direct"], script, emptied(folder))
         wants(f"{path.name}: the images of direct", files_in(folder), images)
     emptied(folder)
@@ -370,11 +383,11 @@ extern void *__libc_calloc(size_t, size_t);
 extern void *__libc_realloc(void *, size_t);
 extern void *__libc_memalign(size_t, size_t);
 
-static long made, chosen = -1;
+static long all, chosen = -1;
 
 static int refused(void) {
     if (chosen < 0) chosen = getenv("REFUSED") ? atol(getenv("REFUSED")) : 0;
-    made++;
+    long made = __atomic_add_fetch(&all, 1, __ATOMIC_SEQ_CST);
     if (chosen == 0 || made < chosen || (made > chosen && !getenv("LATER"))) return 0;
     if (made == chosen) close(open(getenv("TOLD"), O_CREAT | O_WRONLY, 0600));
     errno = ENOMEM;
@@ -418,16 +431,113 @@ STARVED = script_of(
 )
 
 
+def built(source, room, name):
+    """A library to be loaded before the program, or None where no compiler builds it."""
+    compiler = shutil.which("cc") or shutil.which("gcc")
+    text, library = Path(room) / f"{name}.c", Path(room) / f"{name}.so"
+    text.write_text(source)
+    made = [compiler, "-shared", "-fPIC", "-O1", "-fno-builtin", "-o", library, text, "-ldl"]
+    done = compiler and subprocess.run(made, capture_output=True)
+    return library if done and done.returncode == 0 else None
+
+
+COUNTER = r"""
+/* Adds a letter to the file TOLD, which it makes, for each thread that is asked for, started, joined and let go. With ALONE
+   none can be started. */
+#define _GNU_SOURCE
+#include <dlfcn.h>
+#include <errno.h>
+#include <fcntl.h>
+#include <pthread.h>
+#include <stdlib.h>
+#include <unistd.h>
+
+static void tell(const char *letter, int count) {
+    int told = open(getenv("TOLD"), O_CREAT | O_APPEND | O_WRONLY, 0600);
+    if (write(told, letter, count) != count) abort();
+    close(told);
+}
+__attribute__((constructor)) static void begin(void) { tell("", 0); }
+
+int pthread_create(pthread_t *thread, const pthread_attr_t *how, void *(*run)(void *), void *given) {
+    int (*create)(pthread_t *, const pthread_attr_t *, void *(*)(void *), void *) = dlsym(RTLD_NEXT, "pthread_create");
+    tell("a", 1);
+    int refused = getenv("ALONE") ? EAGAIN : create(thread, how, run, given);
+    if (!refused) tell("s", 1);
+    return refused;
+}
+int pthread_join(pthread_t thread, void **result) {
+    int (*join)(pthread_t, void **) = dlsym(RTLD_NEXT, "pthread_join");
+    int refused = join(thread, result);
+    if (!refused) tell("j", 1);
+    return refused;
+}
+int pthread_detach(pthread_t thread) {
+    int (*detach)(pthread_t) = dlsym(RTLD_NEXT, "pthread_detach");
+    tell("d", 1);
+    return detach(thread);
+}
+"""
+
+
+def threads_of_runs(folder):
+    """Counts the threads of a run: over epoch one for each time from a batch that is submitted on until the driver is
+    asked by a call that waits, or the end; and none else. Returns how many runs were counted."""
+    colour, clear = "0 ClearColorx 65536 0 0 65536", "0 Clear COLOR_BUFFER_BIT"
+    waits = "0 ReadPixels 0 0 1 1 RGBA UNSIGNED_BYTE 0"
+    rows = (
+        ("no call", [], 0),
+        ("calls that wait, with nothing before them", [waits, "0 GetError", "0 Finish"], 0),
+        ("a Flush, which is put off and ends its batch", ["0 Flush"], 1),
+        ("a batch that is submitted at the end", [colour, clear], 1),
+        ("batches until a call waits", [*[clear, "0 Flush"] * 3, clear, waits], 1),
+        ("five calls that wait", [colour, *[clear, waits] * 5], 5),
+        ("five calls that wait, and a batch behind them", [colour, *[clear, waits] * 5, clear], 6),
+        ("a get that waits for nobody", [clear, "0 GetIntegerv MATRIX_MODE 0", clear, "0 Finish"], 1),
+        ("a thousand batches of a ring of one", [colour] * 3000, 1),
+    )
+    runs = 0
+    with tempfile.TemporaryDirectory() as room:
+        library, told = built(COUNTER, room, "counter"), Path(room) / "told"
+        if not library:
+            return 0
+        given = {**os.environ, "LD_PRELOAD": str(library), "TOLD": str(told)}
+        for name, lines, wanted in rows:
+            script = script_of(2, 8, lines)
+            size = ["--batch", "16", "--ring", "1"] if len(lines) > 1000 else []
+            same = run(["run", "--rail", "inline", *size], script, emptied(folder)), files_in(folder)
+            wants(f"{name}: status", (same[0][0], same[0][2]), (0, b""))
+            bare = (0, without_counts(same[0][1]), b"")
+            for words, alone, threads in (
+                (["run", *size], False, wanted),
+                (["run", "--rail", "epoch", *size], False, wanted),
+                (["run", "--rail", "epoch", *size], True, 0),
+                (["run", "--rail", "inline", *size], False, 0),
+                (["direct"], False, 0),
+            ):
+                what = f"{name}, {words}{', alone' if alone else ''}"
+                told.unlink(missing_ok=True)
+                done = run(words, script, emptied(folder), env=given | ({"ALONE": "1"} if alone else {}))
+                wants(what, (done, files_in(folder)), (bare if words == ["direct"] else same[0], same[1]))
+                if not told.exists():
+                    return 0
+                counted = tuple(told.read_text().count(letter) for letter in "asjd")
+                if alone:
+                    # Each batch asks anew, since none was started.
+                    wants(f"{what}: threads", (counted[0] >= wanted, counted[1:]), (True, (0, 0, 0)))
+                else:
+                    wants(f"{what}: threads", counted, (threads, threads, threads, 0))
+                runs += 1
+    emptied(folder)
+    return runs
+
+
 def allocations(folder):
     """Has a file not take its place, and each allocation of the program fail in turn, alone and with all that follow.
     Returns how many there are."""
-    compiler = shutil.which("cc") or shutil.which("gcc")
     with tempfile.TemporaryDirectory() as room:
-        source, library, told = Path(room) / "refuser.c", Path(room) / "refuser.so", Path(room) / "told"
-        source.write_text(REFUSER)
-        made = [compiler, "-shared", "-fPIC", "-O1", "-fno-builtin", "-o", library, source]
-        built = compiler and subprocess.run(made, capture_output=True)
-        if not built or built.returncode != 0:
+        library, told = built(REFUSER, room, "refuser"), Path(room) / "told"
+        if not library:
             return None
         (emptied(folder) / "frame-0.ppm").write_bytes(b"an older one")
         unmoved = run(["run"], RED, folder, env={**os.environ, "LD_PRELOAD": str(library), "UNMOVED": "1"})
@@ -438,7 +548,8 @@ def allocations(folder):
         images |= {name: image_of(2, 2, b"\xff\0\0" * 4) for name in ("image-b.ppm", "frame-0.ppm")}
         report = report_of([*answers, "12 0 GetError 0"], "3 3 1 1", 3)
         most = 0
-        for words, wanted in ((["run"], report), (["direct"], without_counts(report)), (["--help"], None)):
+        rails = [(["run", "--rail", rail], report) for rail in RAILS]
+        for words, wanted in (*rails, (["direct"], without_counts(report)), (["--help"], None)):
             wanted = wanted or run(words, STARVED, folder)[1]
             whole = {} if words == ["--help"] else images
             for later in (False, True):
@@ -478,12 +589,16 @@ def main():
         for check in (texts_and_statuses, files_in_the_way, short_writes, large_things, options):
             check(emptied(folder))
         count = examples(folder)
+        counted = threads_of_runs(folder)
         most = allocations(folder)
     for line in wrong:
         print(line)
+    if not counted:
+        print("docs/check_program.py: no thread was counted, for want of a C compiler, or of pthread_create in the program")
     if not most:
         print("docs/check_program.py: no allocation was refused, for want of a C compiler, or of malloc in the program")
-    told = f"statuses, texts, files, {count} examples and {most or 'no'} refused allocations are as told"
+    told = f"statuses, texts, files, {count} examples, the threads of {counted or 'no'} runs"
+    told += f" and {most or 'no'} refused allocations are as told"
     print(f"docs/check_program.py: {'FAILED' if wrong else told}")
     return 1 if wrong else 0
 
