@@ -1,7 +1,10 @@
 //! Objects that fail.
 
-use crate::runs::{Outside, ended, has_file, replay};
+use crate::runs::{ended, has_file};
+use crate::ways::{Outside, WAYS, Way};
 use std::alloc::{AllocError, Global};
+use std::process::Abort;
+use std::sync::Wait;
 use std::test::Fail;
 use std::thread::Threads;
 
@@ -81,9 +84,10 @@ fn failing(alloc: Global, object: &str, call: u64, most: u64) -> Result<Outside,
 }
 
 /// Whether a run of this script with a fault ends as is told.
-fn ends_so<T: Threads + Sync>(
-    rt: &T,
+fn ends_so<T: Threads + Wait + Copy + Send + Sync + Abort + 'static>(
+    rt: T,
     alloc: Global,
+    way: Way,
     whole: &Whole,
     told: &str,
 ) -> Result<bool, AllocError> {
@@ -96,19 +100,13 @@ fn ends_so<T: Threads + Sync>(
     let outside = failing(alloc, object, call, number(words.next()))?;
     let images = number(words.next());
     let written = number(words.next());
-    let left = replay(
-        rt,
-        alloc,
-        "run --rail inline",
-        whole.script.as_bytes(),
-        outside,
-    )?;
+    let left = way.replay(rt, alloc, "run", whole.script.as_bytes(), outside)?;
     if !ended(alloc, &left.status, status)? || left.shelf.len() as u64 != images {
         return Ok(false);
     }
     for place in 0..left.shelf.len() {
         let file = whole.files.get(place).copied().unwrap_or("");
-        if !has_file(&left.shelf, place, file) {
+        if !has_file(alloc, &left.shelf, place, file)? {
             return Ok(false);
         }
     }
@@ -118,22 +116,18 @@ fn ends_so<T: Threads + Sync>(
     )
 }
 
+// The last row of the puts is the first that doesn't fail.
 #[test]
 fn each_fault_ends_the_run(rt: HostRuntime) -> Result<(), Fail> {
-    for told in FAULTS.lines() {
-        assert!(rt; ends_so(&rt, rt.alloc(), &RED, told)?, "the fault {told}");
-    }
-    Ok(())
-}
-
-// The last row is the first put that doesn't fail.
-#[test]
-fn a_failed_put_leaves_the_images_before_it(rt: HostRuntime) -> Result<(), Fail> {
-    for told in FAILED_PUTS.lines() {
-        assert!(rt;
-            ends_so(&rt, rt.alloc(), &THREE_IMAGES, told)?,
-            "the put {told}"
-        );
+    for way in WAYS {
+        for (whole, faults) in [(&RED, FAULTS), (&THREE_IMAGES, FAILED_PUTS)] {
+            for told in faults.lines() {
+                assert!(rt;
+                    ends_so(rt, rt.alloc(), way, whole, told)?,
+                    "{way:?}, the fault {told}"
+                );
+            }
+        }
     }
     Ok(())
 }

@@ -11,3 +11,7 @@ mod rails;
 mod runs;
 #[cfg(test)]
 mod told;
+#[cfg(test)]
+mod ways;
+#[cfg(test)]
+mod workers;

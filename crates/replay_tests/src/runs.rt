@@ -1,147 +1,17 @@
-//! Whole runs of the top call over objects in memory.
+//! Whole runs of the top calls over objects in memory.
 
-ghost use Rattle.std.specs.Prelude.{◌≡◌, ◌<◌};
-ghost use Rattle.batch_rail.specs.declared.maker.RailKind.TheVariants.{Inline};
+ghost use Rattle.std.specs.Prelude.{◌<◌};
 
-use crate::told::{LARGE, MOST_LINES, PAST_LIMITS, REFUSED, RUNS};
-use batch_rail::{InlineMaker, JournalMaker, RailKind, RailMaker, WaitMaker};
-use gl_outside::{MemoryShelf, MemorySink, MemorySource};
-use replay_core::replay_alone;
+use crate::told::{LARGE, MOST_BATCHES, MOST_LINES, PAST_LIMITS, REFUSED, RUNS, SMALL};
+use crate::ways::{Left, Outside, Ready, WAYS, Way, replay_over, wait_over};
+use batch_rail::{JournalMaker, RailKind};
+use gl_outside::MemoryShelf;
 use replay_text::Status;
-use soft_driver::Soft;
 use std::alloc::{AllocError, Global};
 use std::process::Abort;
 use std::sync::Wait;
 use std::test::Fail;
 use std::thread::Threads;
-
-/// Which calls of the source, the shelf and the sink fail, and how many bytes a call moves.
-#[derive(Drop)]
-pub(crate) struct Outside {
-    pub(crate) source: Vec<u64>,
-    pub(crate) shelf: Vec<u64>,
-    pub(crate) sink: Vec<u64>,
-    pub(crate) most: usize,
-}
-
-impl Outside {
-    pub(crate) fn sure(alloc: Global, most: usize) -> Outside {
-        Outside {
-            source: Vec::new(alloc),
-            shelf: Vec::new(alloc),
-            sink: Vec::new(alloc),
-            most,
-        }
-    }
-}
-
-/// What a run left.
-#[derive(Drop)]
-pub(crate) struct Left {
-    pub(crate) status: Status,
-    pub(crate) sink: MemorySink,
-    pub(crate) shelf: MemoryShelf,
-}
-
-/// Replays a script by words with a blank between each two.
-pub(crate) fn replay<T: Threads + Sync>(
-    rt: &T,
-    alloc: Global,
-    words: &str,
-    text: &[u8],
-    outside: Outside,
-) -> Result<Left, AllocError> {
-    let mut rails = InlineMaker::new();
-    replay_over(rt, alloc, words, text, outside, &mut rails)
-}
-
-/// The words and the objects of a run.
-struct Ready {
-    words: Vec<String>,
-    source: MemorySource,
-    sink: MemorySink,
-    shelf: MemoryShelf,
-}
-
-/// The words, of which a blank stands between each two, and the objects, the source with a script.
-fn made_ready(
-    alloc: Global,
-    words: &str,
-    text: &[u8],
-    outside: Outside,
-) -> Result<Ready, AllocError> {
-    let mut all = Vec::new(alloc);
-    for word in words.split(' ') {
-        all.push(String::from_str(alloc, word)?)?;
-    }
-    let most = outside.most.max(1);
-    Ok(Ready {
-        words: all,
-        source: MemorySource::new(Vec::from_slice(alloc, text)?, outside.source, most),
-        sink: MemorySink::new(alloc, outside.sink, most),
-        shelf: MemoryShelf::new(alloc, outside.shelf),
-    })
-}
-
-/// Replays over any maker whose rails are inline.
-pub(crate) fn replay_over<T: Threads + Sync, R: RailMaker<Soft>>(
-    rt: &T,
-    alloc: Global,
-    words: &str,
-    text: &[u8],
-    outside: Outside,
-    rails: &mut R,
-) -> Result<Left, AllocError>
-    requires { R.kind_of rails.old ≡ Inline }
-{
-    let Ready {
-        words: all,
-        mut source,
-        mut sink,
-        mut shelf,
-    } = made_ready(alloc, words, text, outside)?;
-    let status = replay_alone(rt, alloc, &all, &mut source, &mut sink, &mut shelf, rails);
-    Ok(Left {
-        status,
-        sink,
-        shelf,
-    })
-}
-
-/// Replays over any maker whose rails are inline, by the call that may wait.
-fn wait_over<T: Threads + Sync, W: Wait, R: WaitMaker<Soft>>(
-    rt: &T,
-    wait: &W,
-    alloc: Global,
-    words: &str,
-    text: &[u8],
-    outside: Outside,
-    rails: &mut R,
-) -> Result<Left, AllocError>
-    requires { R.kind_of rails.old ≡ Inline }
-{
-    let Ready {
-        words: all,
-        mut source,
-        mut sink,
-        mut shelf,
-    } = made_ready(alloc, words, text, outside)?;
-    let status = replay_core::replay(
-        rt,
-        wait,
-        alloc,
-        &all,
-        &mut source,
-        &mut sink,
-        &mut shelf,
-        rails,
-    );
-    Ok(Left {
-        status,
-        sink,
-        shelf,
-    })
-}
 
 /// Whether two hexadecimal digits spell this byte.
 fn is_spelled(byte: u8, high: u8, low: u8) -> bool {
@@ -165,20 +35,22 @@ fn are_spelled(bytes: &[u8], spelling: &[u8]) -> bool {
     digits.is_empty()
 }
 
-/// Whether bytes are those that are told of a file.
-fn are_told(bytes: &[u8], told: &str) -> bool {
-    match told.strip_prefix('#') {
-        Some(count) => count.parse::<usize>().ok() == Some(bytes.len()),
-        None => are_spelled(bytes, told.as_bytes()),
-    }
-}
-
 /// Whether the file at a place has this name and these bytes.
-pub(crate) fn has_file(shelf: &MemoryShelf, place: usize, told: &str) -> bool {
-    let Some((name, bytes)) = told.trim_end().split_once(' ') else {
-        return false;
+pub(crate) fn has_file(
+    alloc: Global,
+    shelf: &MemoryShelf,
+    place: usize,
+    told: &str,
+) -> Result<bool, AllocError> {
+    let Some((name, spelling)) = told.trim_end().split_once(' ') else {
+        return Ok(false);
     };
-    place < shelf.len() && shelf.name_at(place) == name && are_told(shelf.bytes_at(place), bytes)
+    let digits = unfolded(alloc, spelling)?;
+    Ok(
+        place < shelf.len()
+            && shelf.name_at(place) == name
+            && are_spelled(shelf.bytes_at(place), digits.as_slice()),
+    )
 }
 
 /// Whether a report is what is told of it.
@@ -212,8 +84,8 @@ fn append_repeated(bytes: &mut Vec<u8>, told: &str) -> Result<(), AllocError> {
     Ok(())
 }
 
-/// The script that is told.
-fn script_of(alloc: Global, told: &str) -> Result<Vec<u8>, AllocError> {
+/// What is told, with repeated texts as often as they are to stand.
+fn unfolded(alloc: Global, told: &str) -> Result<Vec<u8>, AllocError> {
     let mut bytes = Vec::new(alloc);
     let mut is_repeated = false;
     for piece in told.split('^') {
@@ -243,7 +115,7 @@ fn script_in(alloc: Global, told: &str) -> Result<Vec<u8>, AllocError> {
     let mut fields = told.split('~');
     let _words = fields.next();
     let _status = fields.next();
-    script_of(alloc, fields.next().unwrap_or("").trim_start())
+    unfolded(alloc, fields.next().unwrap_or("").trim_start())
 }
 
 /// Whether a run left what is told of it: how it ended, the report and the files, and no other.
@@ -258,7 +130,7 @@ fn left_so(alloc: Global, left: &Left, told: &str) -> Result<bool, AllocError> {
     }
     let mut place = 0_usize;
     for file in fields {
-        if !has_file(&left.shelf, place, file) {
+        if !has_file(alloc, &left.shelf, place, file)? {
             return Ok(false);
         }
         place = place.wrapping_add(1);
@@ -266,46 +138,21 @@ fn left_so(alloc: Global, left: &Left, told: &str) -> Result<bool, AllocError> {
     Ok(left.shelf.len() == place)
 }
 
-/// Whether a run leaves what is told.
-fn runs_so<T: Threads + Sync>(rt: &T, alloc: Global, told: &str) -> Result<bool, AllocError> {
-    let script = script_in(alloc, told)?;
-    let sure = Outside::sure(alloc, 65536);
-    let left = replay(rt, alloc, words_of(told), script.as_slice(), sure)?;
-    left_so(alloc, &left, told)
-}
-
-/// Whether a run by the call that may wait leaves what is told.
-fn waits_so<T: Threads + Sync, W: Wait>(
-    rt: &T,
-    wait: &W,
+/// Runs each of these in this way where it can be had, and counts them.
+fn count_runs<T: Threads + Wait + Copy + Send + Sync + Abort + 'static>(
+    rt: T,
     alloc: Global,
-    told: &str,
-) -> Result<bool, AllocError> {
-    let script = script_in(alloc, told)?;
-    let sure = Outside::sure(alloc, 65536);
-    let mut rails = InlineMaker::new();
-    let left = wait_over(
-        rt,
-        wait,
-        alloc,
-        words_of(told),
-        script.as_slice(),
-        sure,
-        &mut rails,
-    )?;
-    left_so(alloc, &left, told)
-}
-
-/// Runs each of these, and counts them.
-fn count_runs<T: Threads + Sync + Abort>(
-    rt: &T,
-    alloc: Global,
+    way: Way,
     runs: &str,
 ) -> Result<u32, AllocError> {
     let mut count = 0_u32;
     for told in runs.split('@') {
-        if !told.is_empty() {
-            assert!(rt; runs_so(rt, alloc, told)?, "the run {told}");
+        let words = words_of(told);
+        if !told.is_empty() && way.has(words) {
+            let script = script_in(alloc, told)?;
+            let sure = Outside::sure(alloc, 65536);
+            let left = way.replay(rt, alloc, words, script.as_slice(), sure)?;
+            assert!(rt; left_so(alloc, &left, told)?, "{way:?}, the run {told}");
             count = count.wrapping_add(1);
         }
     }
@@ -315,21 +162,9 @@ fn count_runs<T: Threads + Sync + Abort>(
 // The bytes were worked by hand, and another program gives the same.
 #[test]
 fn each_script_has_its_report_and_its_images(rt: HostRuntime) -> Result<(), Fail> {
-    assert_eq!(rt; count_runs(&rt, rt.alloc(), RUNS)?, 20);
-    Ok(())
-}
-
-// The bytes are those of the runs above.
-#[test]
-fn each_script_leaves_the_same_by_the_call_that_may_wait(rt: HostRuntime) -> Result<(), Fail> {
-    let mut count = 0_u32;
-    for told in RUNS.split('@') {
-        if !told.is_empty() {
-            assert!(rt; waits_so(&rt, &rt, rt.alloc(), told)?, "the run {told}");
-            count = count.wrapping_add(1);
-        }
+    for (way, runs) in WAYS.into_iter().zip([20, 20, 14, 14]) {
+        assert_eq!(rt; count_runs(rt, rt.alloc(), way, RUNS)?, runs, "{way:?}");
     }
-    assert_eq!(rt; count, 20);
     Ok(())
 }
 
@@ -337,28 +172,80 @@ fn each_script_leaves_the_same_by_the_call_that_may_wait(rt: HostRuntime) -> Res
 // refused stand in the tests of the words.
 #[test]
 fn what_is_refused_leaves_nothing(rt: HostRuntime) -> Result<(), Fail> {
-    assert_eq!(rt; count_runs(&rt, rt.alloc(), REFUSED)?, 12);
+    for way in WAYS {
+        assert_eq!(rt; count_runs(rt, rt.alloc(), way, REFUSED)?, 12, "{way:?}");
+    }
     Ok(())
 }
 
 #[test]
 fn a_script_past_its_limits_is_refused(rt: HostRuntime) -> Result<(), Fail> {
-    assert_eq!(rt; count_runs(&rt, rt.alloc(), PAST_LIMITS)?, 2);
+    for way in [Way::Returning, Way::Worker] {
+        assert_eq!(rt; count_runs(rt, rt.alloc(), way, PAST_LIMITS)?, 2, "{way:?}");
+    }
     Ok(())
 }
 
-// With memory to spare all is done. The report is that of another program.
+/// Runs a script in these ways with these sizes of batches, and with rings of 1 and of 64. Beside each size stands how many
+/// batches there are, which comes into the report at the `$`.
+fn run_with_sizes<T: Threads + Wait + Copy + Send + Sync + Abort + 'static>(
+    rt: T,
+    alloc: Global,
+    ways: &[Way],
+    told: &str,
+    sizes: &[(u32, u32)],
+) -> Result<(), Fail> {
+    let (before, behind) = told.split_once('$').ok_or("no place for a number")?;
+    for (batch, batches) in sizes {
+        for ring in [1, 64] {
+            let told = format!(in alloc;
+                "run --ring {ring} --batch {batch}~{before}{batches}{behind}"
+            )?;
+            for way in ways {
+                assert_eq!(rt; count_runs(rt, alloc, *way, told.as_str())?, 1, "{told}");
+            }
+        }
+    }
+    Ok(())
+}
+
+// With memory to spare all is done. The report is that of another program, and how many batches there are was worked by
+// hand: a call that sets the colour has five slots, and the clear has two.
 #[test]
 fn large_things_succeed(rt: HostRuntime) -> Result<(), Fail> {
-    assert_eq!(rt; count_runs(&rt, rt.alloc(), LARGE)?, 1);
-    Ok(())
+    let sizes = [(16, 334), (77, 67), (1024, 5), (8192, 1)];
+    run_with_sizes(
+        rt,
+        rt.alloc(),
+        &[Way::Returning, Way::Worker],
+        LARGE,
+        &sizes,
+    )
+}
+
+// Worked by hand: the calls have 18 slots together, of which the last has four.
+#[test]
+fn sizes_of_batches_and_rings_leave_the_same_image(rt: HostRuntime) -> Result<(), Fail> {
+    let sizes = [(16, 2), (17, 2), (18, 1), (77, 1), (1024, 1), (8192, 1)];
+    run_with_sizes(rt, rt.alloc(), &WAYS, SMALL, &sizes)
 }
 
 // Worked by hand: a batch has room for 8 or 4,096 calls of two slots each, a Flush ends its batch, and the answers of the
 // lines 3 to 262,143 have 14 bytes each and 1,461,751 digits together.
 #[test]
 fn the_most_lines_are_run_over_the_longest_ring(rt: HostRuntime) -> Result<(), Fail> {
-    assert_eq!(rt; count_runs(&rt, rt.alloc(), MOST_LINES)?, 4);
+    assert_eq!(rt; count_runs(rt, rt.alloc(), Way::Returning, MOST_LINES)?, 3);
+    assert_eq!(rt;
+        count_runs(rt, rt.alloc(), Way::Returning, MOST_BATCHES)?,
+        1
+    );
+    Ok(())
+}
+
+// The bytes are those of the runs above.
+#[test]
+fn the_most_lines_are_run_with_a_worker(rt: HostRuntime) -> Result<(), Fail> {
+    assert_eq!(rt; count_runs(rt, rt.alloc(), Way::Worker, MOST_LINES)?, 3);
     Ok(())
 }
 
@@ -402,14 +289,8 @@ fn handed_over(rt: &impl Abort, left: &Left, rails: &JournalMaker) {
 fn a_run_hands_over_the_batches_of_its_calls(rt: HostRuntime) -> Result<(), Fail> {
     let mut rails = JournalMaker::new(rt.alloc(), RailKind::Inline, 24)?;
     let sure = Outside::sure(rt.alloc(), 4096);
-    let left = replay_over(
-        &rt,
-        rt.alloc(),
-        SMALL_BATCHES,
-        PARTED.as_bytes(),
-        sure,
-        &mut rails,
-    )?;
+    let ready = Ready::new(rt.alloc(), SMALL_BATCHES, PARTED.as_bytes(), sure)?;
+    let left = replay_over(&rt, rt.alloc(), ready, &mut rails);
     handed_over(&rt, &left, &rails);
     Ok(())
 }
@@ -418,15 +299,8 @@ fn a_run_hands_over_the_batches_of_its_calls(rt: HostRuntime) -> Result<(), Fail
 fn a_run_that_may_wait_hands_over_the_same_batches(rt: HostRuntime) -> Result<(), Fail> {
     let mut rails = JournalMaker::new(rt.alloc(), RailKind::Inline, 24)?;
     let sure = Outside::sure(rt.alloc(), 4096);
-    let left = wait_over(
-        &rt,
-        &rt,
-        rt.alloc(),
-        SMALL_BATCHES,
-        PARTED.as_bytes(),
-        sure,
-        &mut rails,
-    )?;
+    let ready = Ready::new(rt.alloc(), SMALL_BATCHES, PARTED.as_bytes(), sure)?;
+    let left = wait_over(&rt, &rt, rt.alloc(), ready, &mut rails);
     handed_over(&rt, &left, &rails);
     Ok(())
 }

@@ -1,14 +1,14 @@
 //! Scripts and what they leave, as data for the tests over whole runs. Each run stands behind an `@`: the words, how it ends,
-//! the script, the report, and each file as its name and its bytes in hexadecimal, with a `~` between each two. In a script
-//! `^` stands around a number and a text that is repeated so many times; in a report around the number of bytes that no one
-//! looks at; and in a file `#` before the number of its bytes, where no one looks at them.
+//! the script, the report, and each file as its name and its bytes in hexadecimal, with a `~` between each two. The words
+//! name no rail. In a script and in a file `^` stands around a number and a text that is repeated so many times; in a report
+//! around the number of bytes that no one looks at.
 
 /// Whole runs. They begin with the smallest, errors and stacks, and a get beside a pending error. Then come batches of 16
 /// slots, which have room for three calls of five slots each; pixels that were read and are an image; each call once at
 /// least, without an error; a read whose upper row lies above the frame, where the bytes between rows stay; numbers and
 /// images at the end of memory; and `direct`.
 pub(crate) const RUNS: &str = "\
-@run --rail inline~done~
+@run~done~
 glscript 1
 context 0 4 4 0
 0 ClearColorx 65536 0 0 65536
@@ -20,7 +20,7 @@ counts 0 2 0 0 1
 images 1
 end
 ~frame-0.ppm 50360a3420340a3235350aff0000ff0000ff0000ff0000ff0000ff0000ff0000ff0000ff0000ff0000ff0000ff0000ff0000ff0000ff0000ff0000
-@run --rail inline~done~
+@run~done~
 glscript 1
 context 0 1 1 0
 end
@@ -30,7 +30,7 @@ counts 0 0 0 0 0
 images 1
 end
 ~frame-0.ppm 50360a3120310a3235350a000000
-@run --rail inline~done~
+@run~done~
 glscript 1
 context 0 1 1 0
 0 Clear 1
@@ -45,7 +45,7 @@ counts 0 1 2 0 1
 images 1
 end
 ~frame-0.ppm 50360a3120310a3235350a000000
-@run --rail inline~done~
+@run~done~
 glscript 1
 context 0 1 1 0
 0 PopMatrix
@@ -63,7 +63,7 @@ counts 0 4 2 0 1
 images 1
 end
 ~frame-0.ppm 50360a3120310a3235350a000000
-@run --rail inline~done~
+@run~done~
 glscript 1
 context 0 1 1 16
 0 MatrixMode 0x9999
@@ -80,7 +80,7 @@ counts 0 1 2 1 1
 images 1
 end
 ~frame-0.ppm 50360a3120310a3235350a000000
-@run --rail inline~done~
+@run~done~
 glscript 1
 context 0 1 1 16
 0 MatrixMode 0x9999
@@ -96,7 +96,7 @@ counts 0 2 2 0 1
 images 1
 end
 ~frame-0.ppm 50360a3120310a3235350a000000
-@run --rail inline~done~
+@run~done~
 glscript 1
 context 0 1 1 8
 0 MatrixMode PROJECTION
@@ -159,7 +159,7 @@ counts 0 4 0 0 1
 images 1
 end
 ~frame-0.ppm 50360a3120310a3235350a000000
-@run --rail inline~done~
+@run~done~
 glscript 1
 context 0 2 1 128
 0 ClearColorx 0 65536 0 65536
@@ -190,7 +190,7 @@ images 2
 end
 ~image-shot.ppm 50360a3220310a3235350a00ff0000ff00
 ~frame-0.ppm 50360a3220310a3235350a00ff0000ff00
-@run --rail inline --batch 16~done~
+@run --batch 16~done~
 glscript 1
 context 0 2 2 64
 0 ActiveTexture TEXTURE1
@@ -246,7 +246,7 @@ images 2
 end
 ~image-seen.ppm 50360a3420310a3235350a080000000000ff8000000000
 ~frame-0.ppm 50360a3220320a3235350aff8000ff8000ff8000ff8000
-@run --rail inline --batch 1024~done~
+@run --batch 1024~done~
 glscript 1
 context 0 2 2 64
 0 ActiveTexture TEXTURE1
@@ -302,7 +302,7 @@ images 2
 end
 ~image-seen.ppm 50360a3420310a3235350a080000000000ff8000000000
 ~frame-0.ppm 50360a3220320a3235350aff8000ff8000ff8000ff8000
-@run --rail inline~done~
+@run~done~
 glscript 1
 context 0 1 2 20
 0 mem 0 EEEEEEEEEEEEEEEEEEEEEEEEEEEEEEEEEEEEEEEE
@@ -320,7 +320,7 @@ images 2
 end
 ~image-all.ppm 50360a3520310a3235350aeeeeeeff0000eeeeee000000eeeeee
 ~frame-0.ppm 50360a3120320a3235350aff0000ff0000
-@run --rail inline~done~
+@run~done~
 glscript 1
 context 0 1 1 8
 0 mem 0 1122334455667788
@@ -414,57 +414,57 @@ context 0 4 4 0
 0 Clear COLOR_BUFFER_BIT
 end
 ~
-@run --rail inline~line 1: NoEnd~
+@run~line 1: NoEnd~
 ~
-@run --rail inline~line 1: BadHeader~
+@run~line 1: BadHeader~
 glscript 9
 context 0 4 4 0
 0 ClearColorx 65536 0 0 65536
 0 Clear COLOR_BUFFER_BIT
 end
 ~
-@run --rail inline~line 2: OutOfRange~
+@run~line 2: OutOfRange~
 glscript 1
 context 0 4 257 0
 0 ClearColorx 65536 0 0 65536
 0 Clear COLOR_BUFFER_BIT
 end
 ~
-@run --rail inline~line 3: UnknownWord~
+@run~line 3: UnknownWord~
 glscript 1
 context 0 4 4 0
 0 clear 1
 0 Clear COLOR_BUFFER_BIT
 end
 ~
-@run --rail inline~line 3: OutOfRange~
+@run~line 3: OutOfRange~
 glscript 1
 context 0 4 4 0
 0 ClearColorx 2147483648 0 0 0
 0 Clear COLOR_BUFFER_BIT
 end
 ~
-@run --rail inline~line 4: BadNumber~
+@run~line 4: BadNumber~
 glscript 1
 context 0 4 4 0
 0 ClearColorx 65536 0 0 65536
 0 Clear 5x
 end
 ~
-@run --rail inline~line 4: NotText~
+@run~line 4: NotText~
 glscript 1
 context 0 4 4 0
 0 ClearColorx 65536 0 0 65536
 0 Clear COLOR_BUFFER_BIT\u{80}
 end
 ~
-@run --rail inline~line 5: NoEnd~
+@run~line 5: NoEnd~
 glscript 1
 context 0 4 4 0
 0 ClearColorx 65536 0 0 65536
 0 Clear COLOR_BUFFER_BIT
 ~
-@run --rail inline~line 5: WrongCount~
+@run~line 5: WrongCount~
 glscript 1
 context 0 4 4 0
 0 ClearColorx 65536 0 0 65536
@@ -472,7 +472,7 @@ context 0 4 4 0
 0 Clear
 end
 ~
-@run --rail inline~line 5: NoSuchContext~
+@run~line 5: NoSuchContext~
 glscript 1
 context 0 4 4 0
 0 ClearColorx 65536 0 0 65536
@@ -480,7 +480,7 @@ context 0 4 4 0
 1 Flush
 end
 ~
-@run --rail inline~line 6: AfterEnd~
+@run~line 6: AfterEnd~
 glscript 1
 context 0 4 4 0
 0 ClearColorx 65536 0 0 65536
@@ -492,7 +492,7 @@ end
 
 /// A byte behind the last line that a script may have, and a last line that goes on past the last byte.
 pub(crate) const PAST_LIMITS: &str = "\
-@run --rail inline~line 262145: TooMany Lines~
+@run~line 262145: TooMany Lines~
 glscript 1
 context 0 4 4 0
 0 ClearColorx 65536 0 0 65536
@@ -500,15 +500,16 @@ context 0 4 4 0
 end
 ^262139 
 ^#~
-@run --rail inline~line 3: TooMany SourceBytes~
+@run~line 3: TooMany SourceBytes~
 glscript 1
 context 0 4 4 0
 #^8388581 x^#~
 ";
 
-/// The largest frame, client memory, image and read, a long line and full batches.
+/// The largest frame, client memory, image and read, a long line and full batches. The words are left out here, and a `$`
+/// stands for the number of batches.
 pub(crate) const LARGE: &str = "\
-@run --rail inline~done~
+done~
 glscript 1
 context 0 256 256 1048576
 0 mem 1 ^4096 5A^
@@ -520,11 +521,31 @@ end
 ~
 glreport 1
 1006 0 ReadPixels 1048576
-counts 0 1001 1 0 5
+counts 0 1001 1 0 $
 images 2
 end
-~image-large.ppm #196623
-~frame-0.ppm #196623
+~image-large.ppm 50360a323536203235360a3235350a^192768 00^5a^767 00^^2304 5a^00^767 5a^
+~frame-0.ppm 50360a323536203235360a3235350a^65536 ff0000^
+";
+
+/// The same of a small frame, with calls of 18 slots.
+pub(crate) const SMALL: &str = "\
+done~
+glscript 1
+context 0 4 4 32
+0 mem 8 050304
+0 EnableClientState VERTEX_ARRAY
+0 VertexPointer 2 BYTE 0 16
+0 ClearColorx 65536 0 0 65536
+0 Clear COLOR_BUFFER_BIT
+0 Scalex 65536 65536 65536
+end
+~
+glreport 1
+counts 0 5 0 0 $
+images 1
+end
+~frame-0.ppm 50360a3420340a3235350aff0000ff0000ff0000ff0000ff0000ff0000ff0000ff0000ff0000ff0000ff0000ff0000ff0000ff0000ff0000ff0000
 ";
 
 /// As many lines as a script may have, over the longest ring.
@@ -551,17 +572,6 @@ counts 0 262141 0 0 64
 images 1
 end
 ~frame-0.ppm 50360a3120310a3235350a000000
-@run --ring 64 --batch 4096~done~
-glscript 1
-context 0 1 1 0
-^262141 0 Flush
-^end
-~
-glreport 1
-counts 0 262141 0 0 262141
-images 1
-end
-~frame-0.ppm 50360a3120310a3235350a000000
 @run~done~
 glscript 1
 context 0 1 1 0
@@ -570,6 +580,21 @@ context 0 1 1 0
 ~
 glreport 1
 ^5131725^counts 0 0 262141 0 0
+images 1
+end
+~frame-0.ppm 50360a3120310a3235350a000000
+";
+
+/// As many batches as a run may have.
+pub(crate) const MOST_BATCHES: &str = "\
+@run --ring 64 --batch 4096~done~
+glscript 1
+context 0 1 1 0
+^262141 0 Flush
+^end
+~
+glreport 1
+counts 0 262141 0 0 262141
 images 1
 end
 ~frame-0.ppm 50360a3120310a3235350a000000
