@@ -1,0 +1,12 @@
+pub mod Asked
+pub mod Work
+pub mod Checksum
+pub mod Frame
+pub mod Counts
+pub mod Shown
+pub use Rattle.script_reader.specs.Number
+pub use Rattle.batch_rail.specs.Maker
+pub use Rattle.gl_front.specs.Front
+pub use Rattle.gl_front.specs.Taking
+pub use Rattle.soft_driver.specs.Own
+pub use Rattle.soft_driver.specs.Soft
