@@ -1,0 +1,4 @@
+pub mod Parts
+pub mod Covering
+pub mod Bounds
+pub mod Drawing

@@ -1,0 +1,208 @@
+//! Pieces for draws and for matrices, at values of another program, and each law once.
+
+ghost use Rattle.gl_tracked.specs.Tracked.{IsSound};
+
+use array_capture::laws::{draw_law, matrix_law};
+use array_capture::*;
+use gl_memory::{ClientMemory, Pieces};
+use gl_tracked::Tracked;
+use gl_words::Call;
+use std::process::Abort;
+use std::test::Fail;
+
+const VERTICES: u32 = 0x8074;
+
+const NORMALS: u32 = 0x8075;
+
+const COLOURS: u32 = 0x8076;
+
+const COORDINATES: u32 = 0x8078;
+
+const BYTE: u32 = 0x1400;
+
+const UNSIGNED_BYTE: u32 = 0x1401;
+
+const SHORT: u32 = 0x1402;
+
+const FIXED: u32 = 0x140C;
+
+/// Takes the steps of calls.
+fn take(tracked: &mut Tracked, calls: &[Call], memory: &ClientMemory)
+    requires sound { IsSound tracked.old }
+    ensures sound { IsSound tracked.new }
+{
+    for call in calls {
+        let fault = tracked.fault(call);
+        tracked.note(call, memory, fault);
+    }
+}
+
+/// Binds a buffer to ARRAY_BUFFER.
+fn bind(tracked: &mut Tracked, buffer: u32)
+    requires sound { IsSound tracked.old }
+    ensures sound { IsSound tracked.new }
+{
+    tracked.array_buffer = buffer;
+}
+
+/// All arrays enabled in client memory, of elements of 12, 6, 4, 3 and 4 bytes.
+fn with_all_arrays(memory: &ClientMemory) -> Tracked
+    ensures sound { IsSound result }
+{
+    let mut tracked = Tracked::first();
+    let calls = [
+        Call::EnableClientState { array: VERTICES },
+        Call::EnableClientState { array: NORMALS },
+        Call::EnableClientState { array: COLOURS },
+        Call::EnableClientState { array: COORDINATES },
+        Call::TexCoordPointer {
+            size: 3,
+            kind: BYTE,
+            stride: 5,
+            pointer: 20,
+        },
+        Call::ClientActiveTexture { texture: 0x84C1 },
+        Call::EnableClientState { array: COORDINATES },
+        Call::TexCoordPointer {
+            size: 2,
+            kind: SHORT,
+            stride: 0,
+            pointer: 10,
+        },
+        Call::ColorPointer {
+            size: 4,
+            kind: UNSIGNED_BYTE,
+            stride: 0,
+            pointer: 190,
+        },
+        Call::NormalPointer {
+            kind: SHORT,
+            stride: 7,
+            pointer: 100,
+        },
+        Call::VertexPointer {
+            size: 3,
+            kind: FIXED,
+            stride: 0,
+            pointer: 0,
+        },
+    ];
+    take(&mut tracked, calls.as_slice(), memory);
+    tracked
+}
+
+/// Pieces have these starts and lengths.
+fn same(rt: &impl Abort, pieces: &Pieces, expected: &[(u64, u64)]) {
+    assert_eq!(rt; pieces.len(), expected.len());
+    for at in 0..pieces.len() {
+        let piece = pieces.at(at);
+        assert_eq!(rt;
+            expected.get(at),
+            Some(&(piece.start, piece.len)),
+            "piece {at}"
+        );
+    }
+}
+
+/// Draws of `count` elements from `first` on have the pieces of these starts and lengths.
+fn draws(
+    rt: &impl Abort,
+    tracked: &Tracked,
+    memory: &ClientMemory,
+    rows: &[(i32, i32, &[(u64, u64)])],
+)
+    requires sound { IsSound tracked.now }
+{
+    draw_law(tracked, memory);
+    for (first, count, expected) in rows {
+        same(
+            rt,
+            &pieces_of_draw(tracked, *first, *count, memory),
+            expected,
+        );
+    }
+}
+
+// By another program. Colours end past memory, where they aren't past it altogether.
+#[test]
+fn a_draw_has_a_piece_for_each_array(rt: HostRuntime) -> Result<(), Fail> {
+    let memory = ClientMemory::new(rt.alloc(), 200)?;
+    let tracked = with_all_arrays(&memory);
+    let rows: [(i32, i32, &[(u64, u64)]); 8] = [
+        (2, 3, &[(24, 36), (114, 20), (198, 2), (30, 13), (18, 12)]),
+        (16, 1, &[(192, 8), (100, 3), (74, 4)]),
+        (
+            0,
+            65536,
+            &[(0, 200), (100, 100), (190, 10), (20, 180), (10, 190)],
+        ),
+        (2, 0, &[]),
+        (2147483647, 65536, &[]),
+        (0, 65537, &[]),
+        (-1, 3, &[]),
+        (0, -1, &[]),
+    ];
+    draws(&rt, &tracked, &memory, rows.as_slice());
+    Ok(())
+}
+
+// By another program: colours disabled, then normals in a buffer, then vertices disabled.
+#[test]
+fn an_array_that_is_not_read_from_client_memory_has_no_piece(rt: HostRuntime) -> Result<(), Fail> {
+    let memory = ClientMemory::new(rt.alloc(), 200)?;
+    let mut tracked = with_all_arrays(&memory);
+    take(
+        &mut tracked,
+        [Call::DisableClientState { array: COLOURS }].as_slice(),
+        &memory,
+    );
+    draws(
+        &rt,
+        &tracked,
+        &memory,
+        [(2, 3, [(24, 36), (114, 20), (30, 13), (18, 12)].as_slice())].as_slice(),
+    );
+    bind(&mut tracked, 7);
+    take(
+        &mut tracked,
+        [Call::NormalPointer {
+            kind: SHORT,
+            stride: 7,
+            pointer: 100,
+        }]
+        .as_slice(),
+        &memory,
+    );
+    draws(
+        &rt,
+        &tracked,
+        &memory,
+        [(2, 3, [(24, 36), (30, 13), (18, 12)].as_slice())].as_slice(),
+    );
+    take(
+        &mut tracked,
+        [Call::DisableClientState { array: VERTICES }].as_slice(),
+        &memory,
+    );
+    draws(&rt, &tracked, &memory, [(2, 3, [].as_slice())].as_slice());
+    Ok(())
+}
+
+// By another program.
+#[test]
+fn a_matrix_has_a_piece_that_ends_with_memory(rt: HostRuntime) -> Result<(), Fail> {
+    let memory = ClientMemory::new(rt.alloc(), 200)?;
+    matrix_law(&memory);
+    let rows: [(u32, &[(u64, u64)]); 6] = [
+        (100, &[(100, 64)]),
+        (136, &[(136, 64)]),
+        (137, &[(137, 63)]),
+        (199, &[(199, 1)]),
+        (200, &[]),
+        (4294967295, &[]),
+    ];
+    for (pointer, expected) in rows {
+        same(&rt, &pieces_of_matrix(pointer, &memory), expected);
+    }
+    Ok(())
+}

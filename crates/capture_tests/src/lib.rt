@@ -1,0 +1,5 @@
+//! Tests of the pieces for draws and matrices.
+#![tactic(auto)]
+
+#[cfg(test)]
+mod captures;
