@@ -1,0 +1,7 @@
+pub mod State
+pub mod Comparison
+pub mod Blend
+pub mod Cell
+pub mod Frame
+pub mod Rows
+pub mod Laws

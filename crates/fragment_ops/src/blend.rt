@@ -1,0 +1,143 @@
+//! Colours of four bytes, red, green, blue and alpha: blending and masks.
+
+ghost use Rattle.std.specs.Prelude.{◌≡◌, ◌<◌, map, if◌then◌else◌};
+ghost use Rattle.fragment_ops.specs.Blend.{blended, blended_at, byte_product, dest_factors, lack_of, masked, part_blended, saturating, source_factors};
+
+const ZERO: u32 = 0;
+
+const ONE: u32 = 1;
+
+const SRC_COLOR: u32 = 0x0300;
+
+const ONE_MINUS_SRC_COLOR: u32 = 0x0301;
+
+const SRC_ALPHA: u32 = 0x0302;
+
+const ONE_MINUS_SRC_ALPHA: u32 = 0x0303;
+
+const DST_ALPHA: u32 = 0x0304;
+
+const ONE_MINUS_DST_ALPHA: u32 = 0x0305;
+
+const DST_COLOR: u32 = 0x0306;
+
+const ONE_MINUS_DST_COLOR: u32 = 0x0307;
+
+/// A source blended with a destination by the factors of these names (section 4.1.7).
+#[tactic(auto, unfolding(crate::specs::Blend::blended))]
+pub(crate) fn blended(
+    source_factor: u32,
+    dest_factor: u32,
+    source: [u8; 4],
+    dest: [u8; 4],
+) -> [u8; 4]
+    ensures { result ≡ blended source_factor dest_factor source dest }
+{
+    let of_source = source_factors(source_factor, source, dest);
+    let of_dest = dest_factors(dest_factor, source, dest);
+    [
+        blended_at(0, source, of_source, dest, of_dest),
+        blended_at(1, source, of_source, dest, of_dest),
+        blended_at(2, source, of_source, dest, of_dest),
+        blended_at(3, source, of_source, dest, of_dest),
+    ]
+}
+
+/// The part at one place, 0 to 3, of a source blended with a destination, each with these factors.
+#[tactic(auto, unfolding(crate::specs::Blend::blended_at))]
+fn blended_at(part: usize, source: [u8; 4], factors: [u8; 4], dest: [u8; 4], of_dest: [u8; 4]) -> u8
+    requires { part < 4 }
+    ensures { result ≡ blended_at source factors dest of_dest part }
+{
+    part_blended(source[part], factors[part], dest[part], of_dest[part])
+}
+
+/// The factor of a source for each part (section 4.1.7).
+#[tactic(auto, unfolding(crate::specs::Blend::source_factors))]
+fn source_factors(factor: u32, source: [u8; 4], dest: [u8; 4]) -> [u8; 4]
+    ensures { result ≡ source_factors factor source dest }
+{
+    match factor {
+        ZERO => [0; 4],
+        ONE => [255; 4],
+        SRC_ALPHA => [source[3]; 4],
+        ONE_MINUS_SRC_ALPHA => [255 - source[3]; 4],
+        DST_ALPHA => [dest[3]; 4],
+        ONE_MINUS_DST_ALPHA => [255 - dest[3]; 4],
+        DST_COLOR => dest,
+        ONE_MINUS_DST_COLOR => lacking(dest),
+        _ => saturating(source, dest),
+    }
+}
+
+/// The factor of a destination for each part (section 4.1.7).
+#[tactic(auto, unfolding(crate::specs::Blend::dest_factors))]
+fn dest_factors(factor: u32, source: [u8; 4], dest: [u8; 4]) -> [u8; 4]
+    ensures { result ≡ dest_factors factor source dest }
+{
+    match factor {
+        ZERO => [0; 4],
+        ONE => [255; 4],
+        SRC_COLOR => source,
+        ONE_MINUS_SRC_COLOR => lacking(source),
+        SRC_ALPHA => [source[3]; 4],
+        ONE_MINUS_SRC_ALPHA => [255 - source[3]; 4],
+        DST_ALPHA => [dest[3]; 4],
+        _ => [255 - dest[3]; 4],
+    }
+}
+
+/// What each part of a colour lacks to 1.
+fn lacking(colour: [u8; 4]) -> [u8; 4]
+    ensures { result ≡ map lack_of colour }
+{
+    let [red, green, blue, alpha] = colour;
+    [255 - red, 255 - green, 255 - blue, 255 - alpha]
+}
+
+/// The factor of SRC_ALPHA_SATURATE for each part.
+#[tactic(auto, unfolding(crate::specs::Blend::saturating))]
+fn saturating(source: [u8; 4], dest: [u8; 4]) -> [u8; 4]
+    ensures { result ≡ saturating source dest }
+{
+    let least = source[3].min(255 - dest[3]);
+    [least, least, least, 255]
+}
+
+/// A part blended: the sum of the source and the destination, each times its factor, cut at 1.
+#[tactic(auto, unfolding(crate::specs::Blend::part_blended))]
+fn part_blended(source: u8, source_factor: u8, dest: u8, dest_factor: u8) -> u8
+    ensures { result ≡ part_blended source source_factor dest dest_factor }
+{
+    let sum = u32::from(byte_product(source, source_factor))
+        + u32::from(byte_product(dest, dest_factor));
+    sum.min(255) as u8
+}
+
+/// The product of two bytes that stand for 0 to 1, as such a byte.
+#[tactic(auto, unfolding(crate::specs::Blend::byte_product))]
+fn byte_product(a: u8, b: u8) -> u8
+    ensures { result ≡ byte_product a b }
+{
+    ((u32::from(a) * u32::from(b) + 127) / 255) as u8
+}
+
+/// A colour that is written over another one: the new part where its mask is on, else the old one (section 4.2.2).
+#[tactic(auto, unfolding(crate::specs::Blend::masked))]
+pub(crate) fn masked(mask: [bool; 4], new: [u8; 4], old: [u8; 4]) -> [u8; 4]
+    ensures { result ≡ masked mask new old }
+{
+    [
+        chosen(mask[0], new[0], old[0]),
+        chosen(mask[1], new[1], old[1]),
+        chosen(mask[2], new[2], old[2]),
+        chosen(mask[3], new[3], old[3]),
+    ]
+}
+
+/// The new byte where a test passes, else the old one.
+fn chosen(test: bool, new: u8, old: u8) -> u8
+    ensures { result ≡ if test then new else old }
+{
+    if test { new } else { old }
+}

@@ -1,0 +1,9 @@
+//! A cell of the frame.
+
+/// What the frame holds at a place: red, green, blue and alpha, a byte each, and a depth of 16 bits, 0 the near plane and
+/// 65535 the far one (chapter 4).
+#[derive(Clone, Copy, Debug, PartialEq, Eq)]
+pub struct Cell {
+    pub colour: [u8; 4],
+    pub depth: u16,
+}

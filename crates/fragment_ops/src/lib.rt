@@ -1,0 +1,16 @@
+//! The frame, and what fragments and Clear make of its cells.
+#![tactic(auto)]
+
+mod blend;
+mod cell;
+mod clear;
+mod comparison;
+mod frame;
+pub mod laws;
+mod place;
+mod state;
+
+pub use cell::Cell;
+pub use frame::Frame;
+pub use place::Place;
+pub use state::FragmentState;
