@@ -7,3 +7,5 @@ pub mod Means
 pub mod Fragments
 pub mod Rows
 pub mod SharedEdges
+pub mod Quotients
+pub mod Ranges

@@ -2,5 +2,6 @@ pub mod Vertex
 pub mod Pixel
 pub mod Row
 pub mod SharedEdge
+pub mod Ranges
 pub mod Held
 pub mod Inside
