@@ -3,7 +3,7 @@ use Rattle.std.specs.Prelude.{Bool, true, false, ℕ, ℤ, pos, List, [], ◌∷
 use Rattle.gl_words.specs.Kind.{AreOfKinds}
 use Rattle.gl_words.specs.Making.{◌&◌, Maker, Values, integers, values_at, made_by}
 use Rattle.gl_words.specs.declared.shape.ArgKind.{ArgKind}
-use Rattle.gl_words.specs.declared.shape.ArgKind.TheVariants.{Enum, Unsigned, Int, Fixed, Pointer}
+use Rattle.gl_words.specs.declared.shape.ArgKind.TheVariants.{Enum, Unsigned, Int, Fixed, Bool as Truth, Pointer}
 use Rattle.gl_words.specs.declared.call.Call.{Call}
 use Rattle.gl_words.specs.declared.call.Call.TheVariants as gl
 
@@ -43,14 +43,27 @@ asks id name kinds make values = row id name kinds make values true
 -- the row of a call: names and arguments are those of chapters 2 to 6, kinds those of section 2.3, numbers own
 unfoldable pub row_of : Call → Row
 row_of (gl.ActiveTexture texture) = does 1 (codes "ActiveTexture") (Enum ∷ []) gl.ActiveTexture (texture & tt)
+row_of (gl.AlphaFuncx func reference) = does 2 (codes "AlphaFuncx") (Enum ∷ Fixed ∷ []) gl.AlphaFuncx (func & reference & tt)
+row_of (gl.BlendFunc sfactor dfactor) = does 5 (codes "BlendFunc") (Enum ∷ Enum ∷ []) gl.BlendFunc (sfactor & dfactor & tt)
 row_of (gl.Clear mask) = does 8 (codes "Clear") (Unsigned ∷ []) gl.Clear (mask & tt)
 row_of (gl.ClearColorx red green blue alpha) = does 9 (codes "ClearColorx") (Fixed ∷ Fixed ∷ Fixed ∷ Fixed ∷ []) gl.ClearColorx (red & green & blue & alpha & tt)
+row_of (gl.ClearDepthx depth) = does 10 (codes "ClearDepthx") (Fixed ∷ []) gl.ClearDepthx (depth & tt)
 row_of (gl.ClientActiveTexture texture) = does 11 (codes "ClientActiveTexture") (Enum ∷ []) gl.ClientActiveTexture (texture & tt)
+row_of (gl.Color4x red green blue alpha) = does 12 (codes "Color4x") (Fixed ∷ Fixed ∷ Fixed ∷ Fixed ∷ []) gl.Color4x (red & green & blue & alpha & tt)
+row_of (gl.ColorMask red green blue alpha) = does 13 (codes "ColorMask") (Truth ∷ Truth ∷ Truth ∷ Truth ∷ []) gl.ColorMask (red & green & blue & alpha & tt)
 row_of (gl.ColorPointer size kind stride pointer) = does 14 (codes "ColorPointer") (Int ∷ Enum ∷ Int ∷ Pointer ∷ []) gl.ColorPointer (size & kind & stride & pointer & tt)
+row_of (gl.CullFace mode) = does 15 (codes "CullFace") (Enum ∷ []) gl.CullFace (mode & tt)
+row_of (gl.DepthFunc func) = does 18 (codes "DepthFunc") (Enum ∷ []) gl.DepthFunc (func & tt)
+row_of (gl.DepthMask flag) = does 19 (codes "DepthMask") (Truth ∷ []) gl.DepthMask (flag & tt)
+row_of (gl.DepthRangex near far) = does 20 (codes "DepthRangex") (Fixed ∷ Fixed ∷ []) gl.DepthRangex (near & far & tt)
+row_of (gl.Disable cap) = does 21 (codes "Disable") (Enum ∷ []) gl.Disable (cap & tt)
 row_of (gl.DisableClientState array) = does 22 (codes "DisableClientState") (Enum ∷ []) gl.DisableClientState (array & tt)
+row_of (gl.DrawArrays mode first count) = does 23 (codes "DrawArrays") (Enum ∷ Int ∷ Int ∷ []) gl.DrawArrays (mode & first & count & tt)
+row_of (gl.Enable cap) = does 25 (codes "Enable") (Enum ∷ []) gl.Enable (cap & tt)
 row_of (gl.EnableClientState array) = does 26 (codes "EnableClientState") (Enum ∷ []) gl.EnableClientState (array & tt)
 row_of gl.Finish = does 27 (codes "Finish") [] gl.Finish tt
 row_of gl.Flush = does 28 (codes "Flush") [] gl.Flush tt
+row_of (gl.FrontFace mode) = does 29 (codes "FrontFace") (Enum ∷ []) gl.FrontFace (mode & tt)
 row_of (gl.Frustumx left right bottom top near far) = does 30 (codes "Frustumx") (Fixed ∷ Fixed ∷ Fixed ∷ Fixed ∷ Fixed ∷ Fixed ∷ []) gl.Frustumx (left & right & bottom & top & near & far & tt)
 row_of gl.GetError = asks 33 (codes "GetError") [] gl.GetError tt
 row_of (gl.GetFixedv pname params) = asks 34 (codes "GetFixedv") (Enum ∷ Pointer ∷ []) gl.GetFixedv (pname & params & tt)
@@ -58,7 +71,11 @@ row_of (gl.GetIntegerv pname params) = asks 35 (codes "GetIntegerv") (Enum ∷ P
 row_of (gl.GetPointerv pname params) = asks 36 (codes "GetPointerv") (Enum ∷ Pointer ∷ []) gl.GetPointerv (pname & params & tt)
 row_of (gl.IsEnabled cap) = asks 38 (codes "IsEnabled") (Enum ∷ []) gl.IsEnabled (cap & tt)
 row_of gl.LoadIdentity = does 40 (codes "LoadIdentity") [] gl.LoadIdentity tt
+row_of (gl.LoadMatrixx matrix) = does 41 (codes "LoadMatrixx") (Pointer ∷ []) gl.LoadMatrixx (matrix & tt)
 row_of (gl.MatrixMode mode) = does 42 (codes "MatrixMode") (Enum ∷ []) gl.MatrixMode (mode & tt)
+row_of (gl.MultMatrixx matrix) = does 43 (codes "MultMatrixx") (Pointer ∷ []) gl.MultMatrixx (matrix & tt)
+row_of (gl.MultiTexCoord4x target s t r q) = does 44 (codes "MultiTexCoord4x") (Enum ∷ Fixed ∷ Fixed ∷ Fixed ∷ Fixed ∷ []) gl.MultiTexCoord4x (target & s & t & r & q & tt)
+row_of (gl.Normal3x nx ny nz) = does 45 (codes "Normal3x") (Fixed ∷ Fixed ∷ Fixed ∷ []) gl.Normal3x (nx & ny & nz & tt)
 row_of (gl.NormalPointer kind stride pointer) = does 46 (codes "NormalPointer") (Enum ∷ Int ∷ Pointer ∷ []) gl.NormalPointer (kind & stride & pointer & tt)
 row_of (gl.Orthox left right bottom top near far) = does 47 (codes "Orthox") (Fixed ∷ Fixed ∷ Fixed ∷ Fixed ∷ Fixed ∷ Fixed ∷ []) gl.Orthox (left & right & bottom & top & near & far & tt)
 row_of (gl.PixelStorei pname param) = does 48 (codes "PixelStorei") (Enum ∷ Int ∷ []) gl.PixelStorei (pname & param & tt)
@@ -67,6 +84,8 @@ row_of gl.PushMatrix = does 50 (codes "PushMatrix") [] gl.PushMatrix tt
 row_of (gl.ReadPixels x y width height format kind pixels) = asks 51 (codes "ReadPixels") (Int ∷ Int ∷ Int ∷ Int ∷ Enum ∷ Enum ∷ Pointer ∷ []) gl.ReadPixels (x & y & width & height & format & kind & pixels & tt)
 row_of (gl.Rotatex angle x y z) = does 52 (codes "Rotatex") (Fixed ∷ Fixed ∷ Fixed ∷ Fixed ∷ []) gl.Rotatex (angle & x & y & z & tt)
 row_of (gl.Scalex x y z) = does 53 (codes "Scalex") (Fixed ∷ Fixed ∷ Fixed ∷ []) gl.Scalex (x & y & z & tt)
+row_of (gl.Scissor x y width height) = does 54 (codes "Scissor") (Int ∷ Int ∷ Int ∷ Int ∷ []) gl.Scissor (x & y & width & height & tt)
+row_of (gl.ShadeModel mode) = does 55 (codes "ShadeModel") (Enum ∷ []) gl.ShadeModel (mode & tt)
 row_of (gl.TexCoordPointer size kind stride pointer) = does 56 (codes "TexCoordPointer") (Int ∷ Enum ∷ Int ∷ Pointer ∷ []) gl.TexCoordPointer (size & kind & stride & pointer & tt)
 row_of (gl.Translatex x y z) = does 62 (codes "Translatex") (Fixed ∷ Fixed ∷ Fixed ∷ []) gl.Translatex (x & y & z & tt)
 row_of (gl.VertexPointer size kind stride pointer) = does 63 (codes "VertexPointer") (Int ∷ Enum ∷ Int ∷ Pointer ∷ []) gl.VertexPointer (size & kind & stride & pointer & tt)
@@ -76,14 +95,27 @@ row_of (gl.Viewport x y width height) = does 64 (codes "Viewport") (Int ∷ Int 
 abbrev pub each_call : List Call
 each_call =
     gl.ActiveTexture 0 ∷
+    gl.AlphaFuncx 0 (pos 0) ∷
+    gl.BlendFunc 0 0 ∷
     gl.Clear 0 ∷
     gl.ClearColorx (pos 0) (pos 0) (pos 0) (pos 0) ∷
+    gl.ClearDepthx (pos 0) ∷
     gl.ClientActiveTexture 0 ∷
+    gl.Color4x (pos 0) (pos 0) (pos 0) (pos 0) ∷
+    gl.ColorMask false false false false ∷
     gl.ColorPointer (pos 0) 0 (pos 0) 0 ∷
+    gl.CullFace 0 ∷
+    gl.DepthFunc 0 ∷
+    gl.DepthMask false ∷
+    gl.DepthRangex (pos 0) (pos 0) ∷
+    gl.Disable 0 ∷
     gl.DisableClientState 0 ∷
+    gl.DrawArrays 0 (pos 0) (pos 0) ∷
+    gl.Enable 0 ∷
     gl.EnableClientState 0 ∷
     gl.Finish ∷
     gl.Flush ∷
+    gl.FrontFace 0 ∷
     gl.Frustumx (pos 0) (pos 0) (pos 0) (pos 0) (pos 0) (pos 0) ∷
     gl.GetError ∷
     gl.GetFixedv 0 0 ∷
@@ -91,7 +123,11 @@ each_call =
     gl.GetPointerv 0 0 ∷
     gl.IsEnabled 0 ∷
     gl.LoadIdentity ∷
+    gl.LoadMatrixx 0 ∷
     gl.MatrixMode 0 ∷
+    gl.MultMatrixx 0 ∷
+    gl.MultiTexCoord4x 0 (pos 0) (pos 0) (pos 0) (pos 0) ∷
+    gl.Normal3x (pos 0) (pos 0) (pos 0) ∷
     gl.NormalPointer 0 (pos 0) 0 ∷
     gl.Orthox (pos 0) (pos 0) (pos 0) (pos 0) (pos 0) (pos 0) ∷
     gl.PixelStorei 0 (pos 0) ∷
@@ -100,6 +136,8 @@ each_call =
     gl.ReadPixels (pos 0) (pos 0) (pos 0) (pos 0) 0 0 0 ∷
     gl.Rotatex (pos 0) (pos 0) (pos 0) (pos 0) ∷
     gl.Scalex (pos 0) (pos 0) (pos 0) ∷
+    gl.Scissor (pos 0) (pos 0) (pos 0) (pos 0) ∷
+    gl.ShadeModel 0 ∷
     gl.TexCoordPointer (pos 0) 0 (pos 0) 0 ∷
     gl.Translatex (pos 0) (pos 0) (pos 0) ∷
     gl.VertexPointer (pos 0) 0 (pos 0) 0 ∷

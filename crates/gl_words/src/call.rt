@@ -7,6 +7,16 @@ pub enum Call {
     ActiveTexture {
         texture: u32,
     },
+    /// Sets which alphas pass the alpha test: a comparison, and the reference, 16.16 fixed (section 4.1.4).
+    AlphaFuncx {
+        func: u32,
+        reference: i32,
+    },
+    /// Sets by which factors source and destination are blended (section 4.1.7).
+    BlendFunc {
+        sfactor: u32,
+        dfactor: u32,
+    },
     /// Clears the buffers named by the bits (section 4.2.3).
     Clear {
         mask: u32,
@@ -18,9 +28,27 @@ pub enum Call {
         blue: i32,
         alpha: i32,
     },
+    /// Sets the depth that Clear writes, 16.16 fixed (section 4.2.3).
+    ClearDepthx {
+        depth: i32,
+    },
     /// Sets which texture unit the calls of arrays speak of, TEXTURE0 or TEXTURE1 (sections 2.7 and 2.8).
     ClientActiveTexture {
         texture: u32,
+    },
+    /// Sets the current colour, 16.16 fixed (section 2.7).
+    Color4x {
+        red: i32,
+        green: i32,
+        blue: i32,
+        alpha: i32,
+    },
+    /// Sets which parts of colours are written (section 4.2.2).
+    ColorMask {
+        red: bool,
+        green: bool,
+        blue: bool,
+        alpha: bool,
     },
     /// Sets where the array of colours lies: its elements, and the bytes from one to the next (section 2.8).
     ColorPointer {
@@ -29,9 +57,41 @@ pub enum Call {
         stride: i32,
         pointer: u32,
     },
+    /// Sets which faces are culled: FRONT, BACK or FRONT_AND_BACK (section 3.5.1).
+    CullFace {
+        mode: u32,
+    },
+    /// Sets which depths pass the depth test: a comparison (section 4.1.6).
+    DepthFunc {
+        func: u32,
+    },
+    /// Sets whether depths are written (section 4.2.2).
+    DepthMask {
+        flag: bool,
+    },
+    /// Sets the depths of the near and the far plane in the window, 16.16 fixed (section 2.10.1).
+    DepthRangex {
+        near: i32,
+        far: i32,
+    },
+    /// Switches a capability off (chapters 2 to 4).
+    Disable {
+        cap: u32,
+    },
     /// Switches an array off (section 2.8).
     DisableClientState {
         array: u32,
+    },
+    /// Draws primitives from consecutive elements of the arrays that are on: which ones, the first element's index, and how
+    /// many elements (section 2.8).
+    DrawArrays {
+        mode: u32,
+        first: i32,
+        count: i32,
+    },
+    /// Switches a capability on (chapters 2 to 4).
+    Enable {
+        cap: u32,
     },
     /// Switches an array on (section 2.8).
     EnableClientState {
@@ -41,6 +101,10 @@ pub enum Call {
     Finish,
     /// Sends all calls on their way (section 5.1).
     Flush,
+    /// Sets which faces are front ones: those wound CW or CCW (section 2.12.1).
+    FrontFace {
+        mode: u32,
+    },
     /// Multiplies the current matrix by a perspective projection, 16.16 fixed (section 2.10.2).
     Frustumx {
         left: i32,
@@ -73,9 +137,31 @@ pub enum Call {
     },
     /// Sets the current matrix to the identity (section 2.10.2).
     LoadIdentity,
+    /// Replaces the current matrix by the sixteen numbers in client memory, 16.16 fixed, column by column (section 2.10.2).
+    LoadMatrixx {
+        matrix: u32,
+    },
     /// Sets which stack of matrices is current: MODELVIEW, PROJECTION or TEXTURE (section 2.10.2).
     MatrixMode {
         mode: u32,
+    },
+    /// Multiplies the current matrix by the sixteen numbers in client memory, 16.16 fixed, column by column (section 2.10.2).
+    MultMatrixx {
+        matrix: u32,
+    },
+    /// Sets the current texture coordinates of a unit, TEXTURE0 or TEXTURE1, 16.16 fixed (section 2.7).
+    MultiTexCoord4x {
+        target: u32,
+        s: i32,
+        t: i32,
+        r: i32,
+        q: i32,
+    },
+    /// Sets the current normal, 16.16 fixed (section 2.7).
+    Normal3x {
+        nx: i32,
+        ny: i32,
+        nz: i32,
     },
     /// Sets where the array of normals lies: its elements, and the bytes from one to the next (section 2.8).
     NormalPointer {
@@ -123,6 +209,17 @@ pub enum Call {
         x: i32,
         y: i32,
         z: i32,
+    },
+    /// Sets the rectangle of the window outside which the scissor test lets nothing pass, in pixels (section 4.1.2).
+    Scissor {
+        x: i32,
+        y: i32,
+        width: i32,
+        height: i32,
+    },
+    /// Sets whether a triangle has one colour or those of its corners: FLAT or SMOOTH (section 2.12.7).
+    ShadeModel {
+        mode: u32,
     },
     /// Sets where the client unit's array of texture coordinates lies: its elements, and the bytes from one to the next (section 2.8).
     TexCoordPointer {

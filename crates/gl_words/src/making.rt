@@ -6,7 +6,7 @@ ghost use Rattle.std.specs.Option.{option_map};
 ghost use Rattle.std.specs.Int.{cast_signed, w64};
 ghost use Rattle.gl_words.specs.Call.{id_of, kinds_of, arguments, again_of, IsInRange};
 ghost use Rattle.gl_words.specs.CallOf.{argument_count, made_of, call_of};
-ghost use Rattle.gl_words.specs.Making.{unsigned_of, signed_of, truth_of, is_of_kind, fits, low_bits, signed_at, unsigned_at};
+ghost use Rattle.gl_words.specs.Making.{unsigned_of, signed_of, truth_of, is_of_kind, fits, low_bits, signed_at, truth_at, unsigned_at};
 ghost use Rattle.gl_words.specs.Slots.{slot_of, call_begun};
 ghost use Rattle.gl_words.specs.declared.call.Call.{Call};
 
@@ -106,6 +106,7 @@ pub(crate) fn made<I: Integer>(call: Call, kinds: &[ArgKind], args: &[I]) -> Opt
 }
 
 macro_rules! value {
+    (Bool $args:ident $place:literal) => { truth($args, $place) };
     (Int $args:ident $place:literal) => { signed($args, $place) };
     (Fixed $args:ident $place:literal) => { signed($args, $place) };
     ($kind:ident $args:ident $place:literal) => { unsigned($args, $place) };
@@ -180,6 +181,17 @@ fn unsigned<I: Integer>(args: &[I], at: usize) -> u32
     match args.get(at) {
         Some(arg) => low_bits(arg.integer()),
         None => 0,
+    }
+}
+
+/// The integer at a place, counted from 0, as a truth value; false where it is none.
+#[tactic(auto, unfolding(crate::specs::Making::truth_at))]
+fn truth<I: Integer>(args: &[I], at: usize) -> bool
+    ensures { result ≡ truth_at (map I.integer args.now) at }
+{
+    match args.get(at) {
+        Some(arg) => truth_from(arg.integer()).unwrap_or(false),
+        None => false,
     }
 }
 
