@@ -40,3 +40,13 @@ stepped_product x a =
 pub value_at-next_column : (edge : Vector) (x y : ℤ) → value_at edge (centre_of (x +ℤ pos 1) y) ≡ value_at edge (centre_of x y) +ℤ pos 2 *ℤ edge.x
 unfolding value_at centre_of
 value_at-next_column edge x y = omega (arith, ints, stepped_product x edge.x)
+
+further_product : (x k a : ℤ) → a *ℤ (pos 2 *ℤ (x +ℤ k) +ℤ pos 1) ≡ a *ℤ (pos 2 *ℤ x +ℤ pos 1) +ℤ pos 2 *ℤ (a *ℤ k)
+further_product x k a =
+    let same : pos 2 *ℤ (x +ℤ k) +ℤ pos 1 ≡ (pos 2 *ℤ x +ℤ pos 1) +ℤ (k +ℤ k) = omega (arith, ints) in
+    ap (λ (z : ℤ). a *ℤ z) same ∙ product-sum a (pos 2 *ℤ x +ℤ pos 1) (k +ℤ k) ∙ omega (arith, ints, product-sum a k k)
+
+-- k columns further it has grown by twice k times its first part
+pub value_at-columns_further : (edge : Vector) (x y k : ℤ) → value_at edge (centre_of (x +ℤ k) y) ≡ value_at edge (centre_of x y) +ℤ pos 2 *ℤ (edge.x *ℤ k)
+unfolding value_at centre_of
+value_at-columns_further edge x y k = omega (arith, ints, further_product x k edge.x)

@@ -1,11 +1,13 @@
 -- What the code computes at a point is its fragment, and its pixel.
-use Rattle.std.proofs.Common.{◌≡◌, ◌≢◌, ℕ, zero, suc, Bool, true, false, ◌&&◌, ℤ, pos, negsuc, neg_ℤ, ◌<ℤ◌, ◌≤ℤ◌, List, Option, Some, None, refl, sym, ap, ◌∙◌, arith}
+use Rattle.std.proofs.Common.{◌≡◌, ◌≢◌, ℕ, zero, suc, Bool, true, false, ◌&&◌, ℤ, pos, negsuc, neg_ℤ, ◌+ℤ◌, ◌<ℤ◌, ◌≤ℤ◌, List, Option, Some, None, refl, sym, ap, ◌∙◌, arith}
 use Rattle.std.specs.Prelude.{int_le, int_lt, if◌then◌else◌}
 use Rattle.std.proofs.lemmas.Int.{ints}
 use Rattle.triangle_raster.specs.declared.vertex.Vertex.{Vertex}
 use Rattle.triangle_raster.specs.declared.vertex.View.{View}
 use Rattle.triangle_raster.specs.declared.fragment.Fragment.{Fragment}
 use Rattle.triangle_raster.specs.Vertex.{corner}
+use Rattle.triangle_raster.specs.Held.{depth_at}
+use Rattle.triangle_raster.proofs.Means.{some_weight}
 use Rattle.triangle_raster.specs.Pixel.{Weights, delta_of, depth_of, is_covered, is_kept, is_zero, kept_fragment, mean, means, pixel_of, w_at, weighted, weights_of, z_at}
 
 pub all_true : (a b c : Bool) → (a && (b && c)) ≡ true → (a ≡ true) × (b ≡ true) × (c ≡ true)
@@ -87,6 +89,61 @@ module _ (corners : List Vertex) (w : Weights) where
           depth = depth_of (z_at corners w) (w_at corners w);
           values = means w (corner corners 0).values (corner corners 1).values (corner corners 2).values;
         } in f) else None) (test_as_kept ∙ t))
+
+some_w_weight : (corners : List Vertex) (w : Weights) → pos 0 ≤ℤ w.one → pos 0 ≤ℤ w.two → pos 0 ≤ℤ w.three → pos 0 <ℤ w_at corners w → pos 0 <ℤ (w.one +ℤ w.two +ℤ w.three)
+unfolding w_at
+some_w_weight corners w h k l p = some_weight w h k l _ _ _ p
+
+no_depth_parts : (test : Bool) (n : ℕ) → (if test then Some n else None) ≡ None → test ≡ false
+no_depth_parts true n e = cc
+no_depth_parts false n e = refl
+
+no_depth : (corners : List Vertex) (w : Weights) → depth_at corners w ≡ None → is_kept (z_at corners w) (w_at corners w) ≡ false
+unfolding depth_at
+no_depth corners w e = no_depth_parts (is_kept (z_at corners w) (w_at corners w)) (depth_of (z_at corners w) (w_at corners w)) e
+
+-- what the code finds of a depth
+pub some_depth : (corners : List Vertex) (w : Weights) {z v : ℤ} {d : ℕ} → z ≡ z_at corners w → v ≡ w_at corners w → is_kept z v ≡ true → d ≡ depth_of z v → Some d ≡ depth_at corners w
+unfolding depth_at
+some_depth corners w {z} {v} {d} e h t k =
+    let test : is_kept (z_at corners w) (w_at corners w) ≡ true = sym (ap (λ (u : ℤ). is_kept u v) e ∙ ap (λ (u : ℤ). is_kept (z_at corners w) u) h) ∙ t in
+    let same : d ≡ depth_of (z_at corners w) (w_at corners w) = k ∙ ap (λ (u : ℤ). depth_of u v) e ∙ ap (λ (u : ℤ). depth_of (z_at corners w) u) h in
+    ap (λ (n : ℕ). Some n) same ∙ sym (ap (λ (b : Bool). if b then Some (depth_of (z_at corners w) (w_at corners w)) else None) test)
+
+pub none_depth : (corners : List Vertex) (w : Weights) {z v : ℤ} → z ≡ z_at corners w → v ≡ w_at corners w → is_kept z v ≡ false → None ≡ depth_at corners w
+unfolding depth_at
+none_depth corners w {z} {v} e h t =
+    let test : is_kept (z_at corners w) (w_at corners w) ≡ false = sym (ap (λ (u : ℤ). is_kept u v) e ∙ ap (λ (u : ℤ). is_kept (z_at corners w) u) h) ∙ t in
+    sym (ap (λ (b : Bool). if b then Some (depth_of (z_at corners w) (w_at corners w)) else None) test)
+
+-- a depth that was found, and the fragment there
+depth_parts : (test : Bool) (n d : ℕ) → (if test then Some n else None) ≡ Some d → (test ≡ true) × (n ≡ d)
+depth_parts true n d e = (refl, cc)
+depth_parts false n d e = cc
+
+module _ (corners : List Vertex) (w : Weights) (d : ℕ) (found : depth_at corners w ≡ Some d) where
+  pub kept_from_depth : is_kept (z_at corners w) (w_at corners w) ≡ true
+  unfolding depth_at
+  kept_from_depth = (depth_parts (is_kept (z_at corners w) (w_at corners w)) (depth_of (z_at corners w) (w_at corners w)) d found).0
+
+  pub same_depth : depth_of (z_at corners w) (w_at corners w) ≡ d
+  unfolding depth_at
+  same_depth = (depth_parts (is_kept (z_at corners w) (w_at corners w)) (depth_of (z_at corners w) (w_at corners w)) d found).1
+
+  pub fragment_from_depth : (x y : ℤ) {fx fy : ℤ} {vs : List ℤ} → fx ≡ x → fy ≡ y → vs ≡ means w (corner corners 0).values (corner corners 1).values (corner corners 2).values →
+      Some (let f : Fragment = record { x = fx; y = fy; depth = d; values = vs } in f) ≡ kept_fragment corners w x y
+  fragment_from_depth x y p q s = some_fragment corners w x y refl refl kept_from_depth p q (sym same_depth) s
+
+  pub some_weight_from_depth : pos 0 ≤ℤ w.one → pos 0 ≤ℤ w.two → pos 0 ≤ℤ w.three → pos 0 <ℤ (w.one +ℤ w.two +ℤ w.three)
+  some_weight_from_depth h k l = some_w_weight corners w h k l (between_from_test _ _ kept_from_depth).0
+
+pub no_fragment_without_depth : (corners : List Vertex) (w : Weights) (x y : ℤ) → depth_at corners w ≡ None → None ≡ kept_fragment corners w x y
+no_fragment_without_depth corners w x y e = no_fragment corners w x y refl refl (no_depth corners w e)
+
+-- a place that was passed and is what it was
+pub kept_fragment-kept : (corners : List Vertex) (w : Weights) {x y x' y' : ℤ} → x' ≡ x → y' ≡ y → kept_fragment corners w x' y' ≡ kept_fragment corners w x y
+kept_fragment-kept corners w {x} {y} {x'} {y'} p q =
+    ap (λ (k : ℤ). kept_fragment corners w k y') p ∙ ap (λ (k : ℤ). kept_fragment corners w x k) q
 
 -- a triangle whose corners don't stand on a line
 is_zero-other : (z : ℤ) → z ≢ pos 0 → is_zero z ≡ false

@@ -5,7 +5,12 @@ pub mod Edges
 pub mod Shapes
 pub mod Means
 pub mod Fragments
+pub mod Spans
+pub mod Levels
 pub mod Rows
+pub mod CoveredColumns
 pub mod SharedEdges
 pub mod Quotients
 pub mod Ranges
+pub mod Walks
+pub mod Heights

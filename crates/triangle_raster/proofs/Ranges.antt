@@ -87,20 +87,28 @@ module _ (corners : List Vertex) (view : View) (x y : ℤ) (f : Fragment) where
   some_is_pixel e = let both = then_covered _ _ _ _ e in kept_is_pixel both.0 both.1
 
 -- ---- values
--- a weighted sum from below and from above
-module _ (w : Weights) (none : NoneIsNegative w) (a b c : ℤ) where
-  weighted-same : (z : ℤ) → weighted w z z z ≡ (w.one +ℤ w.two +ℤ w.three) *ℤ z
+-- a number, given three times
+module _ (w : Weights) (z : ℤ) where
+  weighted-same : weighted w z z z ≡ (w.one +ℤ w.two +ℤ w.three) *ℤ z
   unfolding weighted
-  weighted-same z =
+  weighted-same =
       omega (arith, ints, product_swapped (w.one +ℤ w.two +ℤ w.three) z, product-sum z (w.one +ℤ w.two) w.three, product-sum z w.one w.two)
 
+  pub mean-same : pos 0 <ℤ (w.one +ℤ w.two +ℤ w.three) → mean w z z z ≡ z
+  unfolding mean
+  mean-same some =
+      let same = weighted-same in
+      quotient_is (weighted w z z z) (w.one +ℤ w.two +ℤ w.three) z some (omega (arith, ints)) (omega (arith, ints))
+
+-- a weighted sum from below and from above
+module _ (w : Weights) (none : NoneIsNegative w) (a b c : ℤ) where
   from_low : (low : ℤ) → low ≤ℤ a → low ≤ℤ b → low ≤ℤ c → ((w.one +ℤ w.two +ℤ w.three) *ℤ low) ≤ℤ weighted w a b c
   unfolding weighted
   from_low low h k l =
       let first = product_rises w.one low a none.from_one h in
       let second = product_rises w.two low b none.from_two k in
       let third = product_rises w.three low c none.from_three l in
-      let same : w.one *ℤ low +ℤ w.two *ℤ low +ℤ w.three *ℤ low ≡ (w.one +ℤ w.two +ℤ w.three) *ℤ low = weighted-same low in
+      let same : w.one *ℤ low +ℤ w.two *ℤ low +ℤ w.three *ℤ low ≡ (w.one +ℤ w.two +ℤ w.three) *ℤ low = weighted-same w low in
       omega (arith, ints)
 
   to_high : (high : ℤ) → a ≤ℤ high → b ≤ℤ high → c ≤ℤ high → weighted w a b c ≤ℤ ((w.one +ℤ w.two +ℤ w.three) *ℤ high)
@@ -109,7 +117,7 @@ module _ (w : Weights) (none : NoneIsNegative w) (a b c : ℤ) where
       let first = product_rises w.one a high none.from_one h in
       let second = product_rises w.two b high none.from_two k in
       let third = product_rises w.three c high none.from_three l in
-      let same : w.one *ℤ high +ℤ w.two *ℤ high +ℤ w.three *ℤ high ≡ (w.one +ℤ w.two +ℤ w.three) *ℤ high = weighted-same high in
+      let same : w.one *ℤ high +ℤ w.two *ℤ high +ℤ w.three *ℤ high ≡ (w.one +ℤ w.two +ℤ w.three) *ℤ high = weighted-same w high in
       omega (arith, ints)
 
   pub mean_lies_among : pos 0 <ℤ (w.one +ℤ w.two +ℤ w.three) → LiesAmong a b c (mean w a b c)
@@ -122,13 +130,6 @@ module _ (w : Weights) (none : NoneIsNegative w) (a b c : ℤ) where
       let least = from_low low h.0 k.0 l.0 in
       let greatest = to_high high h.1 k.1 l.1 in
       (lesser_factor whole low (int_div_euclid sum whole) some (omega (arith, ints)), lesser_factor whole (int_div_euclid sum whole) high some (omega (arith, ints)))
-
-  -- the mean of three equal numbers
-  pub mean-same : (z : ℤ) → pos 0 <ℤ (w.one +ℤ w.two +ℤ w.three) → mean w z z z ≡ z
-  unfolding mean
-  mean-same z some =
-      let same = weighted-same z in
-      quotient_is (weighted w z z z) (w.one +ℤ w.two +ℤ w.three) z some (omega (arith, ints)) (omega (arith, ints))
 
 means_lie_among : (w : Weights) → NoneIsNegative w → pos 0 <ℤ (w.one +ℤ w.two +ℤ w.three) → (firsts seconds thirds : List ℤ) (k : ℕ) → k < length (means w firsts seconds thirds) →
     LiesAmong (number_at firsts k) (number_at seconds k) (number_at thirds k) (number_at (means w firsts seconds thirds) k)

@@ -1,20 +1,15 @@
 -- Rows: which columns there are, and what is left after one of them.
-use Rattle.std.proofs.Common.{◌≡◌, ℕ, zero, suc, ◌-◌, ◌*◌, ◌^◌, ◌<◌, Bool, true, false, ◌&&◌, ℤ, pos, negsuc, ◌+ℤ◌, ◌-ℤ◌, ◌*ℤ◌, ◌≤ℤ◌, nat_abs, w32, to_z, of_z, List, [], Option, Some, None, refl, sym, ap, subst, ◌∙◌, arith, lit≤}
-use Rattle.std.specs.Prelude.{int_le, int_lt, is_some, if◌then◌else◌}
-use Rattle.std.specs.List.{cons_option}
+use Rattle.std.proofs.Common.{◌≡◌, ℕ, ◌*◌, ◌^◌, Bool, true, false, ◌&&◌, ℤ, pos, negsuc, ◌+ℤ◌, ◌-ℤ◌, ◌*ℤ◌, ◌≤ℤ◌, List, [], refl, sym, ap, subst, ◌∙◌, arith, lit≤}
+use Rattle.std.specs.Prelude.{int_le, int_lt, if◌then◌else◌}
 use Rattle.std.proofs.lemmas.Int.{ints}
 use Rattle.triangle_raster.specs.declared.vertex.Vertex.{Vertex}
 use Rattle.triangle_raster.specs.declared.vertex.View.{View}
 use Rattle.triangle_raster.specs.declared.vertex.Area.{Area}
-use Rattle.triangle_raster.specs.declared.fragment.Fragment.{Fragment}
 use Rattle.triangle_raster.specs.declared.edge.Edge.{Edge}
 use Rattle.triangle_raster.specs.declared.shape.Shape.{Shape}
 use Rattle.triangle_raster.specs.declared.sums.Sums.{Sums}
 use Rattle.triangle_raster.specs.Vertex.{Vector, IsArea, IsFromTo, IsWithin, centre_of, value_at}
-use Rattle.triangle_raster.specs.Pixel.{pixel_of}
-use Rattle.triangle_raster.specs.declared.row.Row.TheInside.{Inside}
-use Rattle.triangle_raster.specs.Row.{columns_of, count_of, first, numbers_from, pixels_at, rest}
-use Rattle.triangle_raster.specs.Inside.{IsRow, row_seen}
+use Rattle.triangle_raster.specs.Row.{columns_of, count_of, numbers_from, pixels_at}
 use Rattle.triangle_raster.specs.Held.{edge_seen, AreNearSums, AreSumsAt, IsNearEdge, IsShape}
 use Rattle.triangle_raster.proofs.Bounds.{within_product, within_same, sum_near}
 use Rattle.triangle_raster.proofs.Shapes.{first_weight, second_weight, third_weight}
@@ -26,14 +21,6 @@ first_true false b e = e
 second_true : (a b : Bool) → (a && b) ≡ true → b ≡ true
 second_true true b e = e
 second_true false b e = cc
-
-pub count_of-some : (z : ℤ) → pos 0 ≤ℤ z → nat_abs z ≡ count_of z
-count_of-some (pos n) h = refl
-count_of-some (negsuc n) h = absurd (omega (arith, ints))
-
-pub count_of-none : (z : ℤ) → z ≤ℤ pos 0 → count_of z ≡ 0
-count_of-none (pos n) h = omega (arith, ints)
-count_of-none (negsuc n) h = refl
 
 -- the columns of an area end in the frame
 count_of-right : (left right : ℤ) → IsFromTo (pos 0) (pos 256) left → IsFromTo (pos 0) (pos 256) right → (z : ℤ) → z ≡ right -ℤ left → (left +ℤ pos (count_of z)) ≤ℤ pos 256
@@ -76,19 +63,6 @@ module _ (corners : List Vertex) (view : View) where
       ∙ ap (λ (z : ℤ). pixels_at corners view y (numbers_from z n')) q
       ∙ ap (λ (k : ℕ). pixels_at corners view y (numbers_from x k)) r
 
-  module _ (y x : ℤ) where
-    pixels_at-more : (n : ℕ) → pixels_at corners view y (numbers_from x (suc n)) ≡ cons_option (pixel_of corners view x y) (pixels_at corners view y (numbers_from (x +ℤ pos 1) n))
-    pixels_at-more n = refl
-
-    pub pixels_at-next : (n : ℕ) {x' : ℤ} {m : ℕ} (found : Option Fragment) → 0 < n → found ≡ pixel_of corners view x y → x' ≡ x +ℤ pos 1 → m ≡ n - 1 →
-        pixels_at corners view y (numbers_from x n) ≡ cons_option found (pixels_at corners view y (numbers_from x' m))
-    pixels_at-next zero found h e p q = absurd (omega arith)
-    pixels_at-next (suc n) {x'} {m} found h e p q =
-        let same : m ≡ n = omega arith in
-        pixels_at-more n
-        ∙ ap (λ (o : Option Fragment). cons_option o (pixels_at corners view y (numbers_from (x +ℤ pos 1) n))) (sym e)
-        ∙ ap (λ (fs : List Fragment). cons_option found fs) (sym (pixels_at-kept refl p same))
-
 -- the value of a bounded edge at a centre of the frame, and the sums there
 value_at-near : (edge : Edge) → IsNearEdge edge → (x y : ℤ) → IsFromTo (pos 0) (pos 256) x → IsFromTo (pos 0) (pos 256) y → IsWithin (2 ^ 81) (value_at (edge_seen edge) (centre_of x y))
 unfolding value_at centre_of
@@ -108,42 +82,3 @@ near_sums s shape x y h k sums same = record {
   near_two = within_same _ (second_weight _ _ x y _ same ∙ ap (λ (v : Vector). value_at v (centre_of x y)) (sym shape.second_edge)) (value_at-near s.two shape.second_near x y h k);
   near_three = within_same _ (third_weight _ _ x y _ same ∙ ap (λ (v : Vector). value_at v (centre_of x y)) (sym shape.third_edge)) (value_at-near s.three shape.third_near x y h k);
 }
-
--- what a list is, from its first fragment or none and what is left
-pub first_is : (fs list : List Fragment) (found : Option Fragment) → is_some found ≡ true → list ≡ cons_option found fs → found ≡ first list
-first_is fs list (Some f) t e = sym (ap first e)
-first_is fs list None t e = cc
-
-pub rest_is : (fs list : List Fragment) (found : Option Fragment) → is_some found ≡ true → list ≡ cons_option found fs → fs ≡ rest list
-rest_is fs list (Some f) t e = sym (ap rest e)
-rest_is fs list None t e = cc
-
-pub none_is : (fs list : List Fragment) (found : Option Fragment) → is_some found ≡ false → list ≡ cons_option found fs → fs ≡ list
-none_is fs list (Some f) t e = cc
-none_is fs list None t e = sym e
-
--- the fields of a row after one column
-abbrev pub moved : Inside → ℤ → ℕ → Sums → Inside
-moved r x left sums = record { shape = r.shape; y = r.y; x = x; left = left; sums = sums }
-
-module _ (r : Inside) (holds : IsRow r) (some : 0 < r.left) where
-  pub column_holds : IsFromTo (pos 0) (pos 256) r.x
-  column_holds = let width : (r.x +ℤ pos r.left) ≤ℤ pos 256 = holds.in_width in (holds.from_zero, omega (arith, ints))
-
-  pub next_column : to_z w32 (of_z w32 (to_z w32 (of_z w32 r.x) +ℤ pos 1)) ≡ r.x +ℤ pos 1
-  next_column = let within = column_holds in let low : pos 0 ≤ℤ r.x = within.0 in let high : r.x ≤ℤ pos 256 = within.1 in omega (arith, ints)
-
-  pub row_holds : (x : ℤ) (sums : Sums) → x ≡ r.x +ℤ pos 1 → AreSumsAt r.shape (r.x +ℤ pos 1) r.y sums → IsRow (moved r x (r.left - 1) sums)
-  row_holds x sums e same = record {
-    shape_holds = holds.shape_holds;
-    in_height = holds.in_height;
-    from_zero = let low : pos 0 ≤ℤ r.x = holds.from_zero in omega (arith, ints);
-    in_width = let width : (r.x +ℤ pos r.left) ≤ℤ pos 256 = holds.in_width in omega (arith, ints);
-    sums_hold = subst (λ (z : ℤ). AreSumsAt r.shape z r.y sums) (sym e) same;
-  }
-
-  pub row_is : (x : ℤ) (sums : Sums) (found : Option Fragment) → x ≡ r.x +ℤ pos 1 → found ≡ pixel_of r.shape.corners r.shape.view r.x r.y → row_seen r ≡ cons_option found (row_seen (moved r x (r.left - 1) sums))
-  row_is x sums found e same = pixels_at-next r.shape.corners r.shape.view r.y r.x r.left found some same e refl
-
-pub row_done : (r : Inside) → r.left ≡ 0 → row_seen r ≡ []
-row_done r e = ap (λ (n : ℕ). pixels_at r.shape.corners r.shape.view r.y (numbers_from r.x n)) e

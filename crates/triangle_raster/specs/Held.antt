@@ -1,11 +1,17 @@
 -- What the private structs of the code stand for, and within which bounds they keep.
-use Rattle.std.specs.Prelude.{◌≡◌, ◌≢◌, ◌^◌, ℤ, pos, ◌<ℤ◌, ◌≤ℤ◌, ◌↔◌, IsTrue}
+use Rattle.std.specs.Prelude.{◌≡◌, ◌≢◌, ◌^◌, ◌<◌, ℕ, ℤ, pos, ◌+ℤ◌, ◌*ℤ◌, ◌<ℤ◌, ◌≤ℤ◌, ◌↔◌, Bool, true, false, IsTrue, List, Option, Some, None, if◌then◌else◌}
+use Rattle.triangle_raster.specs.declared.fragment.Fragment.{Fragment}
+use Rattle.triangle_raster.specs.declared.fragment.Spot.{Spot}
+use Rattle.triangle_raster.specs.declared.vertex.Vertex.{Vertex}
+use Rattle.triangle_raster.specs.declared.span.Span.{Span}
+use Rattle.triangle_raster.specs.declared.walk.Walk.{Walk}
 use Rattle.triangle_raster.specs.declared.edge.Point.{Point}
 use Rattle.triangle_raster.specs.declared.edge.Edge.{Edge}
 use Rattle.triangle_raster.specs.declared.sums.Sums.{Sums}
 use Rattle.triangle_raster.specs.declared.shape.Shape.{Shape}
-use Rattle.triangle_raster.specs.Vertex.{Vector, IsWithin, IsView, AreCorners}
-use Rattle.triangle_raster.specs.Pixel.{Weights, delta_of, edge_of, weights_of}
+use Rattle.triangle_raster.specs.Vertex.{Vector, IsWithin, IsFromTo, IsView, AreCorners}
+use Rattle.triangle_raster.specs.Pixel.{Weights, above_or, delta_of, depth_of, edge_of, is_covered, is_kept, w_at, weights_of, z_at}
+use Rattle.triangle_raster.specs.Row.{numbers_from, pixels_at}
 
 -- a point as a vector
 abbrev pub point_seen : Point → Vector
@@ -65,3 +71,83 @@ pub record IsShape (s : Shape) : Type 0 where
 -- the sums are the values of the edges at the centre in column x and row y
 abbrev pub AreSumsAt : Shape → ℤ → ℤ → Sums → Type 0
 AreSumsAt s x y sums = sums_seen sums ≡ weights_of s.corners s.view x y
+
+-- a column of the span
+abbrev pub IsIn : Span → ℤ → Type 0
+IsIn s k = (s.from ≤ℤ k) × (k <ℤ s.to)
+
+-- the span lies in a row of the frame
+pub record IsSpan (s : Span) : Type 0 where
+  pub starts : pos 0 ≤ℤ s.from
+  pub in_order : s.from ≤ℤ s.to
+  pub ends : s.to ≤ℤ pos 256
+
+-- the test of an edge in column k, where its value in column 0 is this sum
+abbrev pub passes_in : Edge → ℤ → ℤ → Bool
+passes_in e sum k = above_or (sum +ℤ pos 2 *ℤ (e.x *ℤ k)) (above_or e.x (above_or e.y false))
+
+-- column k is one of so many from column x on, and the triangle covers its centre
+abbrev pub IsCoveredAmong : Shape → ℤ → ℤ → ℕ → ℤ → Type 0
+IsCoveredAmong s x y count k = (pos 0 ≤ℤ k) × (k <ℤ pos count) × IsTrue (is_covered s.corners s.view (x +ℤ k) y)
+
+-- the depth of a point with these weights, or none where it is not kept
+unfoldable pub depth_at : List Vertex → Weights → Option ℕ
+depth_at corners w = if is_kept (z_at corners w) (w_at corners w) then Some (depth_of (z_at corners w) (w_at corners w)) else None
+
+-- by how much the weights grow, halved, from column to column
+abbrev pub steps_of : Shape → Weights
+steps_of s = record { one = s.one.x; two = s.two.x; three = s.three.x }
+
+-- the corners' z by weight, and their w, are the same in every column of a row
+pub record IsLevel (s : Shape) : Type 0 where
+  pub same_z : z_at s.corners (steps_of s) ≡ pos 0
+  pub same_w : w_at s.corners (steps_of s) ≡ pos 0
+
+-- the depth is that in the column before the one with these sums
+pub record IsDepthBefore (s : Shape) (depth : Option ℕ) (next : Sums) : Type 0 where
+  pub x : ℤ
+  pub y : ℤ
+  pub sums : Sums
+  pub here : AreSumsAt s x y sums
+  pub there : AreSumsAt s (x +ℤ pos 1) y next
+  pub same_depth : depth ≡ depth_at s.corners (sums_seen sums)
+
+-- a place with the depth that was found there, if one was
+abbrev pub spot_at : ℤ → ℤ → Option ℕ → Option Spot
+spot_at x y (Some d) = Some (record { x = x; y = y; depth = d })
+spot_at x y None = None
+
+-- the pixels of the columns that are left
+abbrev pub walk_seen : Walk → List Fragment
+walk_seen r = pixels_at r.shape.corners r.shape.view r.y (numbers_from r.x r.left)
+
+-- the columns lie in the frame and are covered, and the sums and the depth are those of the next one
+pub record IsWalk (r : Walk) : Type 0 where
+  pub shape_holds : IsShape r.shape
+  pub in_height : IsFromTo (pos 0) (pos 256) r.y
+  pub from_zero : pos 0 ≤ℤ r.x
+  pub in_width : (r.x +ℤ pos r.left) ≤ℤ pos 256
+  pub sums_hold : AreSumsAt r.shape r.x r.y r.sums
+  pub level_holds : IsTrue r.level → IsLevel r.shape
+  pub depth_holds : r.found ≡ depth_at r.shape.corners (sums_seen r.sums)
+  pub all_covered : (k : ℕ) → k < r.left → is_covered r.shape.corners r.shape.view (r.x +ℤ pos k) r.y ≡ true
+
+-- a corner stands over the lower side of row n, or on it, if it is before the eye
+abbrev pub IsOver : Point → ℤ → Type 0
+IsOver p n = (n *ℤ p.d) ≤ℤ p.y
+
+-- and under it, or on it
+abbrev pub IsUnder : Point → ℤ → Type 0
+IsUnder p n = p.y ≤ℤ (n *ℤ p.d)
+
+-- three corners stand over the lower side of row n, or on it
+pub record AreOver (one two three : Point) (n : ℤ) : Type 0 where
+  pub first_over : IsOver one n
+  pub second_over : IsOver two n
+  pub third_over : IsOver three n
+
+-- and under it, or on it
+pub record AreUnder (one two three : Point) (n : ℤ) : Type 0 where
+  pub first_under : IsUnder one n
+  pub second_under : IsUnder two n
+  pub third_under : IsUnder three n

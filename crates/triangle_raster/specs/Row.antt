@@ -5,6 +5,7 @@ use Rattle.triangle_raster.specs.declared.vertex.Vertex.{Vertex}
 use Rattle.triangle_raster.specs.declared.vertex.View.{View}
 use Rattle.triangle_raster.specs.declared.vertex.Area.{Area}
 use Rattle.triangle_raster.specs.declared.fragment.Fragment.{Fragment}
+use Rattle.triangle_raster.specs.declared.fragment.Spot.{Spot}
 use Rattle.triangle_raster.specs.Pixel.{pixel_of}
 
 -- what a setup was made of: three corners, a viewport, and the area in which fragments lie; own
@@ -51,3 +52,12 @@ first (f ∷ fs) = Some f
 abbrev pub rest : List Fragment → List Fragment
 rest [] = []
 rest (f ∷ fs) = fs
+
+-- where a fragment lies, and its depth; own
+abbrev pub spot_of : Fragment → Spot
+spot_of f = record { x = f.x; y = f.y; depth = f.depth }
+
+-- the spot of the fragment that comes next, if one is left
+abbrev pub first_spot : List Fragment → Option Spot
+first_spot [] = None
+first_spot (f ∷ fs) = Some (spot_of f)

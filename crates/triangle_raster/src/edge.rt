@@ -1,12 +1,13 @@
 //! Points of the window and edges between them, as vectors of three numbers.
 //! No division is made here: a point keeps its divisor.
 
-ghost use Rattle.std.specs.Prelude.{◌≡◌, ◌≤◌, ◌^◌, ◌+ℤ◌, ◌-ℤ◌, ◌*ℤ◌, ◌≤ℤ◌, pos, false, IsTrue};
+ghost use Rattle.std.specs.Prelude.{◌≡◌, ◌≤◌, ◌^◌, ◌+ℤ◌, ◌-ℤ◌, ◌*ℤ◌, ◌<ℤ◌, ◌≤ℤ◌, ◌↔◌, ℤ, pos, false, IsTrue};
 ghost use Rattle.triangle_raster.specs.Vertex.{IsCorner, IsView, IsWithin, IsFromTo, place_of, centre_of, edge_through, value_at, turned};
 ghost use Rattle.triangle_raster.specs.Pixel.{inward, above_or};
-ghost use Rattle.triangle_raster.specs.Held.{point_seen, edge_seen, IsNearPoint, IsNearCentre, IsNearEdge};
+ghost use Rattle.triangle_raster.specs.Held.{point_seen, edge_seen, passes_in, IsIn, IsNearPoint, IsNearCentre, IsNearEdge, IsSpan};
 
 use crate::arithmetic::{long_product, product, small_product, total};
+use crate::span::{Span, first_not_below_zero};
 use crate::vertex::{Vertex, View};
 
 /// A corner's point, (x / d, y / d) in pixels; d is twice the corner's w (16.16 fixed).
@@ -125,6 +126,30 @@ impl Edge {
             long_product(self.y, point.y),
             long_product(self.d, point.d),
         )
+    }
+
+    /// The columns of a span in which the edge's test is passed, where its value in column 0 is this sum.
+    pub fn narrowed(&self, sum: i128, span: Span) -> Span
+        requires edge { IsNearEdge self.now }
+        requires sum { IsWithin (2 ^ 81) sum }
+        requires span { IsSpan span }
+        ensures span { IsSpan result }
+        ensures end { result.to ≤ℤ span.to }
+        ensures exact { (k : ℤ) → IsIn result k
+            ↔ (IsIn span k × IsTrue (passes_in self.now sum k)) }
+    {
+        if self.x > 0 {
+            span.starting(first_not_below_zero(sum, 2 * self.x))
+        } else if self.x < 0 {
+            span.ending(first_not_below_zero(-sum, -2 * self.x))
+        } else if self.passes(sum) {
+            span
+        } else {
+            Span {
+                from: span.to,
+                to: span.to,
+            }
+        }
     }
 
     /// Whether a point at which the edge has this value passes its test.

@@ -1,9 +1,9 @@
 //! A fragment: what a triangle leaves at one pixel.
 
-ghost use Rattle.std.specs.Prelude.{◌≡◌, ◌^◌, ◌+ℤ◌, ◌<ℤ◌, ◌≤ℤ◌, neg_ℤ, pos, All, IsTrue};
+ghost use Rattle.std.specs.Prelude.{◌≡◌, ◌^◌, ◌+ℤ◌, ◌<ℤ◌, ◌≤ℤ◌, neg_ℤ, pos, All, IsTrue, Some};
 ghost use Rattle.triangle_raster.specs.Vertex.{AreCorners, IsWithin};
 ghost use Rattle.triangle_raster.specs.Pixel.{depth_of, is_kept, kept_fragment, means};
-ghost use Rattle.triangle_raster.specs.Held.{sums_seen, AreNearSums, AreNotNegative};
+ghost use Rattle.triangle_raster.specs.Held.{depth_at, sums_seen, AreNearSums, AreNotNegative};
 
 use crate::arithmetic::{all_of, quotient};
 use crate::sums::Sums;
@@ -17,6 +17,14 @@ pub struct Fragment {
     pub y: i32,
     pub depth: u16,
     pub values: [i32; 10],
+}
+
+/// Where a fragment lies, and its depth before DepthRange: what is known before its values are made. Own.
+#[derive(Clone, Copy, Debug, PartialEq, Eq)]
+pub struct Spot {
+    pub x: i32,
+    pub y: i32,
+    pub depth: u16,
 }
 
 /// Whether w is above zero, and z lies from -w to w.
@@ -57,6 +65,42 @@ fn values(a: &[i32; 10], b: &[i32; 10], c: &[i32; 10], sums: &Sums) -> [i32; 10]
     values
 }
 
+/// The depth of a covered point with these weights, or None where it isn't kept.
+pub fn depth_at(corners: &[Vertex; 3], sums: &Sums) -> Option<u16>
+    requires corners { AreCorners corners.now }
+    requires sums { AreNearSums sums.now }
+    ensures { result ≡ depth_at corners.now (sums_seen sums.now) }
+{
+    let z = sums.weighted(corners[0].z, corners[1].z, corners[2].z);
+    let w = sums.weighted(corners[0].w, corners[1].w, corners[2].w);
+    if is_between(z, w) {
+        Some(depth(z, w))
+    } else {
+        None
+    }
+}
+
+/// What is left at a covered point with these weights, which is kept at this depth.
+pub fn kept_at(corners: &[Vertex; 3], sums: &Sums, x: i32, y: i32, depth: u16) -> Fragment
+    requires corners { AreCorners corners.now }
+    requires sums { AreNearSums sums.now }
+    requires not_negative { AreNotNegative sums.now }
+    requires kept { depth_at corners.now (sums_seen sums.now) ≡ Some depth }
+    ensures { Some result ≡ kept_fragment corners.now (sums_seen sums.now) x y }
+{
+    Fragment {
+        x,
+        y,
+        depth,
+        values: values(
+            &corners[0].values,
+            &corners[1].values,
+            &corners[2].values,
+            sums,
+        ),
+    }
+}
+
 /// What is left at a covered point with these weights, or None where it isn't kept.
 pub fn kept(corners: &[Vertex; 3], sums: &Sums, x: i32, y: i32) -> Option<Fragment>
     requires corners { AreCorners corners.now }
@@ -64,21 +108,8 @@ pub fn kept(corners: &[Vertex; 3], sums: &Sums, x: i32, y: i32) -> Option<Fragme
     requires not_negative { AreNotNegative sums.now }
     ensures { result ≡ kept_fragment corners.now (sums_seen sums.now) x y }
 {
-    let z = sums.weighted(corners[0].z, corners[1].z, corners[2].z);
-    let w = sums.weighted(corners[0].w, corners[1].w, corners[2].w);
-    if is_between(z, w) {
-        Some(Fragment {
-            x,
-            y,
-            depth: depth(z, w),
-            values: values(
-                &corners[0].values,
-                &corners[1].values,
-                &corners[2].values,
-                sums,
-            ),
-        })
-    } else {
-        None
+    match depth_at(corners, sums) {
+        Some(depth) => Some(kept_at(corners, sums, x, y, depth)),
+        None => None,
     }
 }

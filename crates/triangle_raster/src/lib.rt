@@ -2,17 +2,22 @@
 #![tactic(auto)]
 
 mod arithmetic;
+mod columns;
 mod edge;
+mod extent;
 mod fragment;
 pub mod laws;
 pub mod plain;
 mod row;
 mod setup;
 mod shape;
+mod span;
 mod sums;
 mod vertex;
+mod walk;
 
-pub use fragment::Fragment;
+pub use extent::Extent;
+pub use fragment::{Fragment, Spot};
 pub use row::Row;
 pub use setup::Setup;
 pub use vertex::{Area, Vertex, View};

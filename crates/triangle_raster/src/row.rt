@@ -1,23 +1,19 @@
 //! The fragments of one row of a triangle, one after the other.
 
-ghost use Rattle.std.specs.Prelude.{◌≡◌, ℕ, ◌+ℤ◌, ◌≤ℤ◌, pos};
+ghost use Rattle.std.specs.Prelude.{◌≡◌, ◌+ℤ◌, ◌≤ℤ◌, pos};
 ghost use Rattle.triangle_raster.specs.Vertex.{IsFromTo};
 ghost use Rattle.triangle_raster.specs.Held.{IsShape};
-ghost use Rattle.triangle_raster.specs.Row.{first, numbers_from, pixels_at, rest};
+ghost use Rattle.triangle_raster.specs.Row.{first, first_spot, numbers_from, pixels_at, rest};
 
-use crate::fragment::Fragment;
+use crate::fragment::{Fragment, Spot};
 use crate::shape::Shape;
-use crate::sums::Sums;
+use crate::walk::Walk;
 use std::marker::Model;
 
-/// A row of a triangle. A contract sees it as the list of the fragments that are still to come.
+/// A row of a triangle. A contract sees it as the list of the fragments that are still to come. Own.
 #[derive(Drop)]
 pub struct Row {
-    shape: Shape,
-    y: i32,
-    x: i32,
-    left: u32,
-    sums: Sums,
+    walk: Walk,
 }
 
 impl Model for Row {
@@ -34,38 +30,51 @@ impl Model for Row {
 }
 
 impl Row {
-    /// The row from column x on, of so many columns. The sums there are found by multiplication.
-    pub(crate) fn from_column(shape: Shape, y: i32, x: i32, left: u32) -> Row
+    /// The row from column x on, of so many columns.
+    pub(crate) fn from_column(shape: Shape, y: i32, x: i32, count: u32) -> Row
         requires shape { IsShape shape }
         requires y { IsFromTo (pos 0) (pos 256) y }
         requires x { pos 0 ≤ℤ x }
-        requires left { (x +ℤ pos left) ≤ℤ pos 256 }
-        ensures { result ≡ pixels_at shape.corners shape.view y (numbers_from x left) }
+        requires count { (x +ℤ pos count) ≤ℤ pos 256 }
+        ensures { result ≡ pixels_at shape.corners shape.view y (numbers_from x count) }
     {
-        let sums = shape.sums_at(x, y);
         Row {
-            shape,
-            y,
-            x,
-            left,
-            sums,
+            walk: Walk::from_column(shape, y, x, count),
         }
     }
 
-    /// The next fragment, in rising x. Its depth is that before DepthRange.
+    /// Where the next fragment lies and its depth, before DepthRange; None where none is left. The fragment stays, and its
+    /// values aren't made. Own.
+    pub fn look(&mut self) -> Option<Spot>
+        ensures next { result ≡ first_spot self.old }
+        ensures same { self.new ≡ self.old }
+    {
+        let found = self.walk.seek();
+        self.walk.spot(found)
+    }
+
+    /// Leaves out the next fragment, if one is left. Its values aren't made. Own.
+    pub fn skip(&mut self)
+        ensures left { self.new ≡ rest self.old }
+    {
+        if self.walk.seek().is_some() {
+            self.walk.step();
+        }
+    }
+
+    /// The next fragment, in rising x; None where none is left. Its depth is that before DepthRange. Section 3.5.1 of OpenGL ES
+    /// 1.1.12, the order own.
     pub fn next(&mut self) -> Option<Fragment>
         ensures next { result ≡ first self.old }
         ensures left { self.new ≡ rest self.old }
     {
-        while self.left > 0 {
-            let found = self.shape.pixel(&self.sums, self.x, self.y);
-            self.sums = self.shape.next_sums(&self.sums);
-            self.x += 1;
-            self.left -= 1;
-            if found.is_some() {
-                return found;
+        match self.walk.seek() {
+            Some(depth) => {
+                let fragment = self.walk.fragment(depth);
+                self.walk.step();
+                Some(fragment)
             }
+            None => None,
         }
-        None
     }
 }

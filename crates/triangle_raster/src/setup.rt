@@ -1,17 +1,19 @@
 //! A triangle that is ready to be drawn row by row.
 
-ghost use Rattle.std.specs.Prelude.{◌≡◌, ◌<ℤ◌, ◌↔◌, pos, IsNone, IfSome, IsTrue};
-ghost use Rattle.triangle_raster.specs.Vertex.{AreCorners, IsArea, IsView};
-ghost use Rattle.triangle_raster.specs.Pixel.{delta_of};
+ghost use Rattle.std.specs.Prelude.{◌≡◌, ℤ, ◌<ℤ◌, ◌≤ℤ◌, ◌↔◌, pos, None, IsNone, IfSome, IsTrue};
+ghost use Rattle.triangle_raster.specs.Vertex.{AreCorners, IsArea, IsFromTo, IsView};
+ghost use Rattle.triangle_raster.specs.Pixel.{delta_of, pixel_of};
 ghost use Rattle.triangle_raster.specs.Row.{fragments_of, triangle_of};
 
+use crate::edge::Point;
+use crate::extent::{Extent, bottom_of, top_of};
 use crate::row::Row;
 use crate::shape::Shape;
 use crate::vertex::{Area, Vertex, View};
 use std::marker::Model;
 
 /// A triangle whose corners don't stand on a line, with the area that its fragments may lie in.
-/// A contract sees it as what it was made of.
+/// A contract sees it as what it was made of. Own.
 #[derive(Drop)]
 pub struct Setup {
     shape: Shape,
@@ -51,7 +53,29 @@ impl Setup {
         self.shape.counter_clockwise
     }
 
-    /// The fragments of row y, in rising x; none where y lies outside the area.
+    /// The rows of the area in which there may be fragments: those between the lowest corner and the highest, where all
+    /// stand before the eye, and else all of the area. Own.
+    pub fn rows(&self) -> Extent
+        ensures bottom { self.now.area.bottom ≤ℤ result.bottom }
+        ensures top { result.top ≤ℤ self.now.area.top }
+        ensures bounds { IsFromTo (pos 0) (pos 256) result.bottom
+            × IsFromTo (pos 0) (pos 256) result.top }
+        ensures under { (x y : ℤ) → self.now.area.bottom ≤ℤ y → y <ℤ result.bottom
+            → pixel_of self.now.corners self.now.view x y ≡ None }
+        ensures over { (x y : ℤ) → result.top ≤ℤ y → y <ℤ self.now.area.top
+            → pixel_of self.now.corners self.now.view x y ≡ None }
+    {
+        let shape = &self.shape;
+        let one = Point::of_corner(&shape.corners[0], &shape.view);
+        let two = Point::of_corner(&shape.corners[1], &shape.view);
+        let three = Point::of_corner(&shape.corners[2], &shape.view);
+        let bottom = bottom_of(&one, &two, &three, self.area.bottom);
+        let top = top_of(&one, &two, &three, self.area.top);
+        Extent { bottom, top }
+    }
+
+    /// The fragments of row y, in rising x; none where y lies outside the area. Section 3.5.1 of OpenGL ES 1.1.12, the order
+    /// own.
     pub fn row(&self, y: i32) -> Row
         ensures { result ≡ fragments_of self.now y }
     {

@@ -3,11 +3,12 @@
 ghost use Rattle.std.specs.Prelude.{◌≡◌, ◌≤◌, ◌^◌, ℤ, ◌+ℤ◌, ◌*ℤ◌, ◌<ℤ◌, ◌≤ℤ◌, ◌↔◌, pos, IsNone, IfSome, IsTrue};
 ghost use Rattle.triangle_raster.specs.Vertex.{AreCorners, IsView, IsFromTo};
 ghost use Rattle.triangle_raster.specs.Pixel.{delta_of, is_covered, pixel_of};
-ghost use Rattle.triangle_raster.specs.Held.{AreNearSums, AreNotNegative, AreSumsAt, IsShape};
+ghost use Rattle.triangle_raster.specs.Held.{AreNearSums, AreNotNegative, AreSumsAt, IsCoveredAmong, IsIn, IsLevel, IsShape, IsSpan, IsDepthBefore, depth_at, sums_seen};
 
 use crate::arithmetic::{all_of, stepped};
 use crate::edge::{Edge, Point};
-use crate::fragment::{Fragment, kept};
+use crate::fragment::{Fragment, depth_at, kept};
+use crate::span::Span;
 use crate::sums::Sums;
 use crate::vertex::{Vertex, View};
 
@@ -68,6 +69,25 @@ impl Shape {
         }
     }
 
+    /// The columns in which the triangle covers the centre, out of so many from the one with these sums on.
+    pub fn span(&self, sums: &Sums, count: u32) -> Span
+        requires shape { IsShape self.now }
+        requires near { AreNearSums sums.now }
+        requires count { count ≤ 256 }
+        ensures span { IsSpan result }
+        ensures end { result.to ≤ℤ pos count }
+        ensures exact { (x y : ℤ) → AreSumsAt self.now x y sums.now
+            → (k : ℤ) → IsIn result k ↔ IsCoveredAmong self.now x y count k }
+    {
+        let all = Span {
+            from: 0,
+            to: count as i32,
+        };
+        let one = self.one.narrowed(sums.one, all);
+        let two = self.two.narrowed(sums.two, one);
+        self.three.narrowed(sums.three, two)
+    }
+
     /// The values of the edges one column further.
     pub fn next_sums(&self, sums: &Sums) -> Sums
         requires shape { IsShape self.now }
@@ -79,6 +99,37 @@ impl Shape {
             one: stepped(sums.one, self.one.x),
             two: stepped(sums.two, self.two.x),
             three: stepped(sums.three, self.three.x),
+        }
+    }
+
+    /// Whether the depth is the same in every column of a row, or in none.
+    pub fn is_level(&self) -> bool
+        requires shape { IsShape self.now }
+        ensures level { IsTrue result → IsLevel self.now }
+    {
+        let steps = Sums {
+            one: self.one.x,
+            two: self.two.x,
+            three: self.three.x,
+        };
+        let corners = &self.corners;
+        let z = steps.weighted(corners[0].z, corners[1].z, corners[2].z);
+        let w = steps.weighted(corners[0].w, corners[1].w, corners[2].w);
+        z == 0 && w == 0
+    }
+
+    /// The depth at the point with these sums, or None where it isn't kept; `before` is that of the column before.
+    pub fn next_depth(&self, level: bool, before: Option<u16>, sums: &Sums) -> Option<u16>
+        requires shape { IsShape self.now }
+        requires near { AreNearSums sums.now }
+        requires level { IsTrue level → IsLevel self.now }
+        requires before { IsDepthBefore self.now before sums.now }
+        ensures { result ≡ depth_at self.now.corners (sums_seen sums.now) }
+    {
+        if level {
+            before
+        } else {
+            depth_at(&self.corners, sums)
         }
     }
 

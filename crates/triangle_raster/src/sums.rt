@@ -1,6 +1,6 @@
 //! The values of the three edges at a point, which are the weights of the corners there.
 
-ghost use Rattle.std.specs.Prelude.{◌≡◌, ◌^◌, ◌+ℤ◌, ◌*ℤ◌, ◌<ℤ◌, pos};
+ghost use Rattle.std.specs.Prelude.{◌≡◌, ◌^◌, ◌+ℤ◌, ◌*ℤ◌, ◌<ℤ◌, pos, IsTrue};
 ghost use Rattle.triangle_raster.specs.Vertex.{IsWithin};
 ghost use Rattle.triangle_raster.specs.Pixel.{mean, weighted};
 ghost use Rattle.triangle_raster.specs.Held.{sums_seen, AreNearSums, AreNotNegative};
@@ -13,6 +13,13 @@ pub struct Sums {
     pub one: i128,
     pub two: i128,
     pub three: i128,
+}
+
+/// Whether three numbers are one.
+fn are_same(a: i32, b: i32, c: i32) -> bool
+    ensures same { IsTrue result → (a ≡ b) × (a ≡ c) }
+{
+    a == b && a == c
 }
 
 impl Sums {
@@ -41,7 +48,7 @@ impl Sums {
         total(self.one, self.two, self.three)
     }
 
-    /// The mean of three numbers by weight, rounded down.
+    /// The mean of three numbers by weight, rounded down. Where they are one, nothing is divided.
     pub fn mean(&self, a: i32, b: i32, c: i32) -> i32
         requires sums { AreNearSums self.now }
         requires not_negative { AreNotNegative self.now }
@@ -52,6 +59,9 @@ impl Sums {
         ensures value { result ≡ mean (sums_seen self.now) a b c }
         ensures near { IsWithin (2 ^ 27) result }
     {
+        if are_same(a, b, c) {
+            return a;
+        }
         quotient(self.weighted(a, b, c), self.whole()) as i32
     }
 }

@@ -9,8 +9,8 @@ pub from_column-requires-clause-y : goal.from_column-requires-clause-y
 from_column-requires-clause-y c =
     row_in_frame c.self.inside.area _ c.self.invariant.area_holds (sym c.has_row.ensures ∙ c.if-has_row.true)
 
-pub from_column-requires-clause-left : goal.from_column-requires-clause-left
-from_column-requires-clause-left c =
+pub from_column-requires-clause-count : goal.from_column-requires-clause-count
+from_column-requires-clause-count c =
     columns_end_kept c.self.inside.area c.self.invariant.area_holds (kept_column c.self.invariant.area_holds.from_left) c.width.ensures
 
 pub returns-then-has_row : goal.returns-then-has_row

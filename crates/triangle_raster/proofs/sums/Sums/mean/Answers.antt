@@ -1,4 +1,4 @@
-use Rattle.std.proofs.Common.{◌≡◌, ◌∙◌, ◌^◌, to_z, of_z, arith, lit<}
+use Rattle.std.proofs.Common.{◌≡◌, ◌∙◌, ◌^◌, refl, sym, to_z, of_z, arith, lit<}
 use Rattle.std.specs.Int.{w128}
 use Rattle.std.proofs.lemmas.Int.{ints}
 use Rattle.triangle_raster.specs.Vertex.{IsWithin}
@@ -6,8 +6,19 @@ use Rattle.triangle_raster.specs.Pixel.{weighted}
 use Rattle.triangle_raster.specs.Held.{sums_seen}
 use Rattle.triangle_raster.proofs.Bounds.{kept_32, kept_128, as_128, as_32}
 use Rattle.triangle_raster.proofs.Means.{mean_as_kept, mean_within}
-use Rattle.triangle_raster.proofs.Fragments.{weighted_kept}
+use Rattle.triangle_raster.proofs.Fragments.{mean_kept, weighted_kept}
+use Rattle.triangle_raster.proofs.Ranges.{mean-same}
 use Rattle.triangle_raster.proofs.sums.Sums.mean.Goals as goal
+
+-- the mean of a number, given three times, is that number
+pub returns-then-are_same-clause-value : goal.returns-then-are_same-clause-value
+returns-then-are_same-clause-value c =
+    let same = c.are_same.ensures.same c.if-are_same.true in
+    let first = kept_32 c.requires.a (lit< tt) in
+    let second : c.args.b ≡ c.args.a = sym (kept_32 c.requires.b (lit< tt)) ∙ sym same.0 ∙ first in
+    let third : c.args.c ≡ c.args.a = sym (kept_32 c.requires.c (lit< tt)) ∙ sym same.1 ∙ first in
+    let whole = mean_kept (sums_seen c.args.self.now) refl second third ∙ mean-same (sums_seen c.args.self.now) c.args.a c.requires.some in
+    cc (first, whole)
 
 pub overflow_cast-result : goal.overflow_cast-result
 overflow_cast-result c =

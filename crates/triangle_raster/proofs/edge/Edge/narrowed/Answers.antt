@@ -1,0 +1,38 @@
+use Rattle.std.proofs.Common.{◌≡◌, ◌^◌, false, ℤ, to_z, of_z, sym, ap, ◌∙◌, rules, arith, lit<}
+use Rattle.std.specs.Int.{w128}
+use Rattle.std.proofs.lemmas.Int.{ints, to_z-of_z}
+use Rattle.triangle_raster.specs.Vertex.{IsWithin}
+use Rattle.triangle_raster.specs.Pixel.{above_or}
+use Rattle.triangle_raster.proofs.Bounds.{kept_128}
+use Rattle.triangle_raster.proofs.Spans.{all_pass, none_passes, passes_in-falling, passes_in-rising}
+use Rattle.triangle_raster.proofs.edge.Edge.narrowed.Goals as goal
+
+pub returns-then-self-gt0-clause-exact : goal.returns-then-self-gt0-clause-exact
+returns-then-self-gt0-clause-exact c = λ k.
+    let near : IsWithin (2 ^ 68) c.args.self.now.x = c.requires.edge.across in
+    let small : IsWithin (2 ^ 81) c.args.sum = c.requires.sum in
+    let sum_kept : to_z w128 (of_z w128 c.args.sum) ≡ c.args.sum = kept_128 small (lit< tt) in
+    let part_kept : to_z w128 (of_z w128 c.args.self.now.x) ≡ c.args.self.now.x = kept_128 near (lit< tt) in
+    passes_in-rising c.args.self.now c.args.sum k (c.starting.ensures.exact k) (c.first_not_below_zero.ensures k)
+    (to_z-of_z w128 c.first_not_below_zero.result (search rules)) (omega (arith, ints)) (omega (arith, ints)) (omega (arith, ints))
+
+pub returns-then-self-lt0-clause-exact : goal.returns-then-self-lt0-clause-exact
+returns-then-self-lt0-clause-exact c = λ k.
+    let near : IsWithin (2 ^ 68) c.args.self.now.x = c.requires.edge.across in
+    let small : IsWithin (2 ^ 81) c.args.sum = c.requires.sum in
+    let sum_kept : to_z w128 (of_z w128 c.args.sum) ≡ c.args.sum = kept_128 small (lit< tt) in
+    let part_kept : to_z w128 (of_z w128 c.args.self.now.x) ≡ c.args.self.now.x = kept_128 near (lit< tt) in
+    passes_in-falling c.args.self.now c.args.sum k (c.ending.ensures.exact k) (c.first_not_below_zero-then-self-lt0.ensures k)
+    (to_z-of_z w128 c.first_not_below_zero-then-self-lt0.result (search rules)) (omega (arith, ints)) (omega (arith, ints)) (omega (arith, ints))
+
+pub returns-then-passes-clause-exact : goal.returns-then-passes-clause-exact
+returns-then-passes-clause-exact c = λ k.
+    let part_kept : to_z w128 (of_z w128 c.args.self.now.x) ≡ c.args.self.now.x = kept_128 c.requires.edge.across (lit< tt) in
+    all_pass c.args.self.now c.args.sum k (omega (arith, ints))
+    (ap (λ (z : ℤ). above_or z (above_or c.args.self.now.x (above_or c.args.self.now.y false))) (sym (kept_128 c.requires.sum (lit< tt))) ∙ sym c.passes.ensures.test ∙ c.if-passes.true)
+
+pub returns-else-passes-clause-exact : goal.returns-else-passes-clause-exact
+returns-else-passes-clause-exact c = λ k.
+    let part_kept : to_z w128 (of_z w128 c.args.self.now.x) ≡ c.args.self.now.x = kept_128 c.requires.edge.across (lit< tt) in
+    none_passes c.args.self.now c.args.sum k (omega (arith, ints)) _
+    (ap (λ (z : ℤ). above_or z (above_or c.args.self.now.x (above_or c.args.self.now.y false))) (sym (kept_128 c.requires.sum (lit< tt))) ∙ sym c.passes.ensures.test ∙ c.if-passes.false)
