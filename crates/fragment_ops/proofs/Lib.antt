@@ -3,3 +3,4 @@ pub mod Rows
 pub mod Places
 pub mod Keeping
 pub mod Scissors
+pub mod FrameChanges

@@ -3,5 +3,6 @@ pub mod Comparison
 pub mod Blend
 pub mod Cell
 pub mod Frame
+pub mod Hidden
 pub mod Rows
 pub mod Laws

@@ -3,6 +3,7 @@
 ghost use Rattle.std.specs.Prelude.{◌≡◌, ◌+◌, ◌*◌, ◌<◌, length, IfOk, IfSome};
 ghost use Rattle.fragment_ops.specs.Cell.{cell_after_clear, cell_after_put};
 ghost use Rattle.fragment_ops.specs.Frame.{cell_at, first_frame, frame_changed, only_at, pixel_at, place_in, AreSides, IsFrame};
+ghost use Rattle.fragment_ops.specs.Hidden.{is_hidden};
 ghost use Rattle.fragment_ops.specs.State.{IsFragmentState};
 
 use crate::cell::Cell;
@@ -99,6 +100,20 @@ impl Frame {
         let old = self.cell(place);
         let at = self.before(place);
         self.cells[at] = state.put(place, depth, colour, old);
+    }
+
+    /// Whether the depth test fails a fragment of this depth in column x and row y, in pixels from the lower left corner,
+    /// whatever its colour (section 4.1.6). Then `put` would change nothing.
+    #[tactic(auto, unfolding(crate::specs::Hidden::is_hidden))]
+    pub fn hides(&self, state: &FragmentState, x: i32, y: i32, depth: u16) -> bool
+        requires state { IsFragmentState state.now }
+        ensures hidden { result ≡ is_hidden state.now self.now x y depth }
+        ensures whole { IsFrame self.now }
+    {
+        match self.place(x, y) {
+            Some(place) => !state.passes_depth(depth, [0; 4], self.cell(place)),
+            None => false,
+        }
     }
 
     /// Clears the colour or the depth, or both: inside the scissor, under the masks (section 4.2.3). It takes no memory.

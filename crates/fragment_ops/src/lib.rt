@@ -13,4 +13,4 @@ mod state;
 pub use cell::Cell;
 pub use frame::Frame;
 pub use place::Place;
-pub use state::FragmentState;
+pub use state::{FragmentState, byte};

@@ -63,7 +63,7 @@ impl FragmentState {
     }
 
     /// The depth test of a depth against that of a cell (section 4.1.6).
-    fn passes_depth(&self, depth: u16, colour: [u8; 4], old: Cell) -> bool
+    pub(crate) fn passes_depth(&self, depth: u16, colour: [u8; 4], old: Cell) -> bool
         ensures { result ≡ passes_depth self.now (record { depth = depth; colour = colour }) old }
     {
         if self.depth_on {
@@ -198,7 +198,7 @@ fn chosen(test: bool, new: u16, old: u16) -> u16
 }
 
 /// A 16.16 fixed number of 0 to 1 as a byte, rounded; own.
-fn byte(number: i32) -> u8
+pub fn byte(number: i32) -> u8
     requires within { IsWithinOne number }
     ensures { result ≡ byte_of number }
 {
