@@ -9,7 +9,7 @@ use Rattle.std.proofs.lemmas.Map.Views.{Contains-from_any}
 use Rattle.gl_words.specs.declared.call.Call.TheVariants.{Frustumx, Orthox}
 use Rattle.gl_words.specs.declared.error.GlError.{GlError}
 use Rattle.gl_tracked.specs.declared.tracked.Tracked.{Tracked}
-use Rattle.gl_tracked.specs.Fault.{fault_of, differ, first_failed, is_among, is_box, is_frustum, is_stride, pointer_fault, size_is_among}
+use Rattle.gl_tracked.specs.Fault.{fault_of, differ, first_failed, is_among, is_box, is_extent, is_frustum, is_stride, pointer_fault, size_is_among}
 
 -- a test that made no error was passed
 pub passed : {E : Type 0} (test : Bool) (error : E) → cond test None (Some error) ≡ None → test ≡ true
@@ -40,6 +40,13 @@ pub record HasPlace (knows_size knows_type : Bool) (stride : ℤ) : Type 0 where
 
 at_least : (a b : ℤ) → int_le a b ≡ true → a ≤ℤ b
 at_least a b h = grind (arith, ints)
+
+-- neither side of an extent is below zero
+pub extent_has_sides : (width height : ℤ) → is_extent width height ≡ true → (pos 0 ≤ℤ width) × (pos 0 ≤ℤ height)
+unfolding is_extent
+extent_has_sides width height h =
+    let parts = and_parts (int_le (pos 0) width) (int_le (pos 0) height) h in
+    (at_least (pos 0) width (parts.0), at_least (pos 0) height (parts.1))
 
 pub pointer_has_place : (knows_size knows_type : Bool) (stride : ℤ) → pointer_fault knows_size knows_type stride ≡ None → HasPlace knows_size knows_type stride
 unfolding pointer_fault is_stride

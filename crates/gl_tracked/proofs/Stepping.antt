@@ -1,26 +1,25 @@
 -- What a call does to tracked state, what it reads and for what it asks, by the kinds of calls.
-use Rattle.std.proofs.Common.{◌≡◌, ℕ, ℤ, Bool, true, false, List, Option, Some, None, refl, sym, ap, ◌∙◌}
+use Rattle.std.proofs.Common.{◌≡◌, ℕ, ℤ, Bool, true, false, List, [], ◌∷◌, Option, Some, None, refl, sym, ap, ◌∙◌}
 use Rattle.std.proofs.lemmas.Bool.{true≢false}
-use Rattle.std.proofs.lemmas.List.Elements.{All-nil}
 use Rattle.std.proofs.lemmas.Option.{none-some}
 use Rattle.gl_words.specs.Call.{is_answering}
 use Rattle.gl_words.specs.declared.call.Call.{Call}
-use Rattle.gl_words.specs.declared.call.Call.TheVariants.{ActiveTexture, Clear, ClientActiveTexture, ColorPointer, DisableClientState, EnableClientState, GetIntegerv, GetPointerv, IsEnabled, MatrixMode, NormalPointer, PixelStorei, PopMatrix, PushMatrix, TexCoordPointer, VertexPointer}
+use Rattle.gl_words.specs.declared.call.Call.TheVariants.{ActiveTexture, Clear, ClientActiveTexture, ColorPointer, DisableClientState, DrawArrays, EnableClientState, GetIntegerv, GetPointerv, IsEnabled, LoadMatrixx, MatrixMode, MultMatrixx, NormalPointer, PixelStorei, PopMatrix, PushMatrix, TexCoordPointer, VertexPointer}
 use Rattle.gl_words.specs.declared.error.GlError.{GlError}
-use Rattle.gl_memory.specs.Piece.{LiesIn}
-use Rattle.gl_memory.specs.Segment.{Segment, byte_at}
+use Rattle.gl_memory.specs.Segment.{Segment}
 use Rattle.gl_memory.specs.declared.piece.Piece.{Piece}
 use Rattle.gl_tracked.specs.declared.tracked.Tracked.{Tracked}
 use Rattle.gl_tracked.specs.Fault.{fault_of}
-use Rattle.gl_tracked.specs.Reads.{AgreesOn}
-use Rattle.gl_tracked.specs.Step.{set_by, unless_fault, tracked_after, reads_of, number_asked}
+use Rattle.gl_tracked.specs.Ranges.{range_of_matrix, ranges_of_draw}
+use Rattle.gl_tracked.specs.Reads.{Ranges}
+use Rattle.gl_tracked.specs.Step.{set_by, unless_fault, tracked_after, none_on_fault, ranges_of, reads_of, number_asked}
 
 set_by-memory : (tracked : Tracked) (call : Call) (m n : List Segment) → set_by tracked call m ≡ set_by tracked call n
 unfolding set_by
 set_by-memory tracked (Clear mask) m n = refl
 set_by-memory tracked _ m n = refl
 
--- no call's step depends on memory yet
+-- no call's step depends on memory
 pub tracked_after-memory : (tracked : Tracked) (call : Call) (m n : List Segment) → tracked_after tracked call m ≡ tracked_after tracked call n
 unfolding tracked_after
 tracked_after-memory tracked call m n = ap (unless_fault (fault_of tracked call) tracked) (set_by-memory tracked call m n)
@@ -66,6 +65,13 @@ may_set PushMatrix = true
 may_set (TexCoordPointer size kind stride pointer) = true
 may_set (VertexPointer size kind stride pointer) = true
 may_set _ = false
+
+-- whether a call may read memory; own
+abbrev pub may_read : Call → Bool
+may_read (DrawArrays mode first count) = true
+may_read (LoadMatrixx matrix) = true
+may_read (MultMatrixx matrix) = true
+may_read _ = false
 
 set_by-others : (tracked : Tracked) (call : Call) (memory : List Segment) → may_set call ≡ false → set_by tracked call memory ≡ tracked
 unfolding set_by
@@ -120,7 +126,52 @@ pub tracked_after-no_fault : (tracked : Tracked) (call : Call) (memory : List Se
 unfolding tracked_after
 tracked_after-no_fault tracked call memory h = ap (λ (fault : Option GlError). unless_fault fault tracked (set_by tracked call memory)) h
 
--- no call reads memory yet, so to each of them any two memories are the same
-pub AgreesOn-none : (tracked : Tracked) (call : Call) (memory m n : List Segment) → AgreesOn m n (reads_of tracked call memory)
+-- a call without an error reads what the table says
+pub reads_of-no_fault : (tracked : Tracked) (call : Call) (memory : List Segment) → fault_of tracked call ≡ None → reads_of tracked call memory ≡ Ranges (ranges_of tracked call)
 unfolding reads_of
-AgreesOn-none tracked call memory m n = All-nil (λ (range : Piece). (place : ℕ) → LiesIn place range → byte_at m place ≡ byte_at n place)
+reads_of-no_fault tracked call memory h = ap (λ (fault : Option GlError). Ranges (none_on_fault fault (ranges_of tracked call))) h
+
+-- a call with an error reads nothing; section 2.5
+pub reads_of-fault : (tracked : Tracked) (call : Call) (memory : List Segment) (error : GlError) → fault_of tracked call ≡ Some error → reads_of tracked call memory ≡ Ranges []
+unfolding reads_of
+reads_of-fault tracked call memory error h = ap (λ (fault : Option GlError). Ranges (none_on_fault fault (ranges_of tracked call))) h
+
+ranges_of-draw : (tracked : Tracked) (mode : ℕ) (first count : ℤ) → ranges_of tracked (DrawArrays mode first count) ≡ ranges_of_draw tracked first count
+unfolding ranges_of
+ranges_of-draw tracked mode first count = refl
+
+-- a draw without an error reads its elements; section 2.8
+pub reads_of-draw : (tracked : Tracked) (mode : ℕ) (first count : ℤ) (memory : List Segment) → fault_of tracked (DrawArrays mode first count) ≡ None
+    → reads_of tracked (DrawArrays mode first count) memory ≡ Ranges (ranges_of_draw tracked first count)
+reads_of-draw tracked mode first count memory h = reads_of-no_fault tracked (DrawArrays mode first count) memory h ∙ ap Ranges (ranges_of-draw tracked mode first count)
+
+-- a matrix reads its 16 numbers; section 2.10.2
+pub reads_of-load : (tracked : Tracked) (matrix : ℕ) (memory : List Segment) → reads_of tracked (LoadMatrixx matrix) memory ≡ Ranges (range_of_matrix matrix ∷ [])
+unfolding reads_of fault_of ranges_of
+reads_of-load tracked matrix memory = refl
+
+pub reads_of-multiply : (tracked : Tracked) (matrix : ℕ) (memory : List Segment) → reads_of tracked (MultMatrixx matrix) memory ≡ Ranges (range_of_matrix matrix ∷ [])
+unfolding reads_of fault_of ranges_of
+reads_of-multiply tracked matrix memory = refl
+
+-- what a call reads is the same on any two memories
+pub reads_of-memory : (tracked : Tracked) (call : Call) (m n : List Segment) → reads_of tracked call m ≡ reads_of tracked call n
+unfolding reads_of
+reads_of-memory tracked call m n = refl
+
+none_on_fault-none : (fault : Option GlError) → none_on_fault fault [] ≡ []
+none_on_fault-none None = refl
+none_on_fault-none (Some error) = refl
+
+ranges_of-none : (tracked : Tracked) (call : Call) → may_read call ≡ false → ranges_of tracked call ≡ []
+unfolding ranges_of
+ranges_of-none tracked (DrawArrays mode first count) h = absurd (cc)
+ranges_of-none tracked (LoadMatrixx matrix) h = absurd (cc)
+ranges_of-none tracked (MultMatrixx matrix) h = absurd (cc)
+ranges_of-none tracked _ h = refl
+
+-- no other call reads memory
+pub reads_of-none : (tracked : Tracked) (call : Call) (memory : List Segment) → may_read call ≡ false → reads_of tracked call memory ≡ Ranges []
+unfolding reads_of
+reads_of-none tracked call memory h =
+    ap (λ (ranges : List Piece). Ranges (none_on_fault (fault_of tracked call) ranges)) (ranges_of-none tracked call h) ∙ ap Ranges (none_on_fault-none (fault_of tracked call))

@@ -3,10 +3,11 @@ use Rattle.std.specs.Prelude.{ℕ, ◌==◌, nat_lt, ℤ, pos, int_le, int_lt, B
 use Rattle.std.specs.List.{list_any}
 use Rattle.std.specs.Ordering.{int_eq}
 use Rattle.gl_words.specs.declared.call.Call.{Call}
-use Rattle.gl_words.specs.declared.call.Call.TheVariants.{ActiveTexture, Clear, ClearColorx, ClientActiveTexture, ColorPointer, DisableClientState, EnableClientState, Finish, Flush, Frustumx, GetError, GetFixedv, GetIntegerv, GetPointerv, IsEnabled, LoadIdentity, MatrixMode, NormalPointer, Orthox, PixelStorei, PopMatrix, PushMatrix, ReadPixels, Rotatex, Scalex, TexCoordPointer, Translatex, VertexPointer, Viewport}
+use Rattle.gl_words.specs.declared.call.Call.TheVariants.{ActiveTexture, AlphaFuncx, BlendFunc, Clear, ClearColorx, ClearDepthx, ClientActiveTexture, Color4x, ColorMask, ColorPointer, CullFace, DepthFunc, DepthMask, DepthRangex, Disable, DisableClientState, DrawArrays, Enable, EnableClientState, Finish, Flush, FrontFace, Frustumx, GetError, GetFixedv, GetIntegerv, GetPointerv, IsEnabled, LoadIdentity, LoadMatrixx, MatrixMode, MultMatrixx, MultiTexCoord4x, Normal3x, NormalPointer, Orthox, PixelStorei, PopMatrix, PushMatrix, ReadPixels, Rotatex, Scalex, Scissor, ShadeModel, TexCoordPointer, Translatex, VertexPointer, Viewport}
 use Rattle.gl_words.specs.declared.error.GlError.{GlError}
 use Rattle.gl_words.specs.declared.error.GlError.TheVariants.{InvalidEnum, InvalidValue, StackOverflow, StackUnderflow}
 use Rattle.gl_tracked.specs.declared.tracked.Tracked.{Tracked}
+use Rattle.gl_tracked.specs.Enumerants.{comparisons, dest_factors, faces, modes, shadings, source_factors, windings}
 use Rattle.gl_tracked.specs.Gets.{integer_asked, pointer_asked, other_integers, fixed_names}
 use Rattle.gl_tracked.specs.Stack.{is_matrix_mode, current_depth, current_most}
 use Rattle.gl_tracked.specs.Tracked.{alignments, alignment_names, array_sizes, arrays, capabilities, colour_types, units, vertex_types}
@@ -27,7 +28,7 @@ is_box left right bottom top near far = (differ left right && differ bottom top)
 unfoldable pub is_frustum : ℤ → ℤ → ℤ → ℤ → ℤ → ℤ → Bool
 is_frustum left right bottom top near far = (int_lt (pos 0) near && int_lt (pos 0) far) && is_box left right bottom top near far
 
--- neither side of a viewport is below zero; section 2.10.1
+-- neither side of a viewport or a scissor is below zero; sections 2.10.1 and 4.1.2
 unfoldable pub is_extent : ℤ → ℤ → Bool
 is_extent width height = int_le (pos 0) width && int_le (pos 0) height
 
@@ -57,17 +58,34 @@ pointer_fault knows_size knows_type stride =
 unfoldable pub is_readable : ℤ → ℤ → Bool
 is_readable width height = is_extent width height && (int_le width (pos 512) && int_le height (pos 512))
 
--- the first error test of a call that fails, or none; sections 2.7, 2.8, 2.10.1, 2.10.2, 3.6.1, 4.2.3, 4.3.1 and 6.1
+-- elements that can be drawn: a first one that isn't below zero, and 0 to 65536 of them; section 2.8, the most own
+unfoldable pub is_drawable : ℤ → ℤ → Bool
+is_drawable first count = int_le (pos 0) first && (int_le (pos 0) count && int_le count (pos 65536))
+
+-- the first error test of a call that fails, or none; sections 2.6.1, 2.7, 2.8, 2.10.1, 2.10.2, 2.12.1, 2.12.7, 3.5.1, 3.6.1, 4.1.2, 4.1.4, 4.1.6, 4.1.7, 4.2.3, 4.3.1 and 6.1, and chapters 2 to 4 for capabilities
 unfoldable pub fault_of : Tracked → Call → Option GlError
 fault_of tracked (ActiveTexture texture) = if is_among units texture then None else Some InvalidEnum
+fault_of tracked (AlphaFuncx func reference) = if is_among comparisons func then None else Some InvalidEnum
+fault_of tracked (BlendFunc sfactor dfactor) = if is_among source_factors sfactor && is_among dest_factors dfactor then None else Some InvalidEnum
 fault_of tracked (Clear mask) = if is_known_mask mask then None else Some InvalidValue
 fault_of tracked (ClearColorx red green blue alpha) = None
+fault_of tracked (ClearDepthx depth) = None
 fault_of tracked (ClientActiveTexture texture) = if is_among units texture then None else Some InvalidEnum
+fault_of tracked (Color4x red green blue alpha) = None
+fault_of tracked (ColorMask red green blue alpha) = None
 fault_of tracked (ColorPointer size kind stride pointer) = pointer_fault (size_is_among (pos 4 ∷ []) size) (is_among colour_types kind) stride
+fault_of tracked (CullFace mode) = if is_among faces mode then None else Some InvalidEnum
+fault_of tracked (DepthFunc func) = if is_among comparisons func then None else Some InvalidEnum
+fault_of tracked (DepthMask flag) = None
+fault_of tracked (DepthRangex near far) = None
+fault_of tracked (Disable cap) = if is_among capabilities cap then None else Some InvalidEnum
 fault_of tracked (DisableClientState array) = if is_among arrays array then None else Some InvalidEnum
+fault_of tracked (DrawArrays mode first count) = first_failed ((is_among modes mode, InvalidEnum) ∷ (is_drawable first count, InvalidValue) ∷ [])
+fault_of tracked (Enable cap) = if is_among capabilities cap then None else Some InvalidEnum
 fault_of tracked (EnableClientState array) = if is_among arrays array then None else Some InvalidEnum
 fault_of tracked Finish = None
 fault_of tracked Flush = None
+fault_of tracked (FrontFace mode) = if is_among windings mode then None else Some InvalidEnum
 fault_of tracked (Frustumx left right bottom top near far) = if is_frustum left right bottom top near far then None else Some InvalidValue
 fault_of tracked GetError = None
 fault_of tracked (GetFixedv pname params) = if is_among fixed_names pname then None else Some InvalidEnum
@@ -75,7 +93,11 @@ fault_of tracked (GetIntegerv pname params) = if is_some (integer_asked tracked 
 fault_of tracked (GetPointerv pname params) = if is_some (pointer_asked tracked pname) then None else Some InvalidEnum
 fault_of tracked (IsEnabled cap) = if is_among capabilities cap || is_among arrays cap then None else Some InvalidEnum
 fault_of tracked LoadIdentity = None
+fault_of tracked (LoadMatrixx matrix) = None
 fault_of tracked (MatrixMode mode) = if is_matrix_mode mode then None else Some InvalidEnum
+fault_of tracked (MultMatrixx matrix) = None
+fault_of tracked (MultiTexCoord4x target s t r q) = if is_among units target then None else Some InvalidEnum
+fault_of tracked (Normal3x nx ny nz) = None
 fault_of tracked (NormalPointer kind stride pointer) = pointer_fault true (is_among vertex_types kind) stride
 fault_of tracked (Orthox left right bottom top near far) = if is_box left right bottom top near far then None else Some InvalidValue
 fault_of tracked (PixelStorei pname param) = first_failed ((is_among alignment_names pname, InvalidEnum) ∷ (size_is_among alignments param, InvalidValue) ∷ [])
@@ -85,6 +107,8 @@ fault_of tracked (ReadPixels x y width height format kind pixels) =
     first_failed ((format == 0x1908, InvalidEnum) ∷ (kind == 0x1401, InvalidEnum) ∷ (is_readable width height, InvalidValue) ∷ [])
 fault_of tracked (Rotatex angle x y z) = None
 fault_of tracked (Scalex x y z) = None
+fault_of tracked (Scissor x y width height) = if is_extent width height then None else Some InvalidValue
+fault_of tracked (ShadeModel mode) = if is_among shadings mode then None else Some InvalidEnum
 fault_of tracked (TexCoordPointer size kind stride pointer) = pointer_fault (size_is_among array_sizes size) (is_among vertex_types kind) stride
 fault_of tracked (Translatex x y z) = None
 fault_of tracked (VertexPointer size kind stride pointer) = pointer_fault (size_is_among array_sizes size) (is_among vertex_types kind) stride

@@ -1,10 +1,12 @@
 pub mod Tracked
 pub mod Stack
 pub mod Arrays
+pub mod Enumerants
 pub mod Gets
 pub mod Fault
 pub mod Reads
 pub mod Element
+pub mod Ranges
 pub mod Step
 pub mod Finding
 pub use Rattle.gl_words.specs.Call

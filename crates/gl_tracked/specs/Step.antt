@@ -1,13 +1,15 @@
 -- What a call does to tracked state, what it reads of memory, and which number of tracked state it asks for.
-use Rattle.std.specs.Prelude.{ℕ, ◌+◌, ◌-◌, ◌==◌, ℤ, true, false, if◌then◌else◌, List, [], Option, Some, None}
+use Rattle.std.specs.Prelude.{ℕ, ◌+◌, ◌-◌, ◌==◌, ℤ, true, false, if◌then◌else◌, List, [], ◌∷◌, Option, Some, None}
 use Rattle.gl_words.specs.declared.call.Call.{Call}
-use Rattle.gl_words.specs.declared.call.Call.TheVariants.{ActiveTexture, ClientActiveTexture, ColorPointer, DisableClientState, EnableClientState, GetIntegerv, GetPointerv, IsEnabled, MatrixMode, NormalPointer, PixelStorei, PopMatrix, PushMatrix, TexCoordPointer, VertexPointer}
+use Rattle.gl_words.specs.declared.call.Call.TheVariants.{ActiveTexture, ClientActiveTexture, ColorPointer, DisableClientState, DrawArrays, EnableClientState, GetIntegerv, GetPointerv, IsEnabled, LoadMatrixx, MatrixMode, MultMatrixx, NormalPointer, PixelStorei, PopMatrix, PushMatrix, TexCoordPointer, VertexPointer}
 use Rattle.gl_words.specs.declared.error.GlError.{GlError}
 use Rattle.gl_memory.specs.Segment.{Segment}
+use Rattle.gl_memory.specs.declared.piece.Piece.{Piece}
 use Rattle.gl_tracked.specs.declared.tracked.Tracked.{Tracked}
 use Rattle.gl_tracked.specs.Fault.{fault_of}
 use Rattle.gl_tracked.specs.Arrays.{with_enabled, with_pointer}
 use Rattle.gl_tracked.specs.Gets.{integer_asked, pointer_asked, enabled_asked}
+use Rattle.gl_tracked.specs.Ranges.{range_of_matrix, ranges_of_draw}
 use Rattle.gl_tracked.specs.Reads.{Reads, Ranges}
 use Rattle.gl_tracked.specs.Stack.{current_depth, with_depth}
 
@@ -41,9 +43,21 @@ unless_fault (Some error) before after = before
 unfoldable pub tracked_after : Tracked → Call → List Segment → Tracked
 tracked_after tracked call memory = unless_fault (fault_of tracked call) tracked (set_by tracked call memory)
 
--- what a call reads of a memory: no call reads memory yet; section 2.8
+-- the ranges of memory that a call without an error reads: those of a draw and of a matrix; sections 2.8 and 2.10.2
+unfoldable pub ranges_of : Tracked → Call → List Piece
+ranges_of tracked (DrawArrays mode first count) = ranges_of_draw tracked first count
+ranges_of tracked (LoadMatrixx matrix) = range_of_matrix matrix ∷ []
+ranges_of tracked (MultMatrixx matrix) = range_of_matrix matrix ∷ []
+ranges_of tracked _ = []
+
+-- what is read where there was an error, which is nothing, and where there was none; section 2.5
+abbrev pub none_on_fault : Option GlError → List Piece → List Piece
+none_on_fault None ranges = ranges
+none_on_fault (Some error) ranges = []
+
+-- what a call reads of a memory: a call with an error reads nothing; sections 2.5, 2.8 and 2.10.2
 unfoldable pub reads_of : Tracked → Call → List Segment → Reads
-reads_of tracked call memory = Ranges []
+reads_of tracked call memory = Ranges (none_on_fault (fault_of tracked call) (ranges_of tracked call))
 
 -- the number of tracked state for which a call asks, if it asks for one; section 6.1
 unfoldable pub number_asked : Tracked → Call → Option ℤ

@@ -3,13 +3,15 @@
 ghost use Rattle.std.specs.Prelude.{◌≡◌, ◌==◌, ◌||◌, pos, true, if◌then◌else◌, ◌∷◌, [], Some, None, is_some};
 ghost use Rattle.gl_tracked.specs.declared.tracked.Tracked.{Tracked};
 ghost use Rattle.gl_tracked.specs.Arrays.{gives_pointer};
-ghost use Rattle.gl_tracked.specs.Fault.{differ, fault_of, first_failed, has_sides, is_among, is_box, is_extent, is_frustum, is_known_mask, is_readable, pointer_fault, size_is_among};
+ghost use Rattle.gl_tracked.specs.Enumerants.{modes};
+ghost use Rattle.gl_tracked.specs.Fault.{differ, fault_of, first_failed, has_sides, is_among, is_box, is_drawable, is_extent, is_frustum, is_known_mask, is_readable, pointer_fault, size_is_among};
 ghost use Rattle.gl_tracked.specs.Gets.{enabled_asked, fixed_names, integer_asked, other_integers, pointer_asked};
 ghost use Rattle.gl_tracked.specs.Finding.{fault_found, number_found};
 ghost use Rattle.gl_tracked.specs.Stack.{is_matrix_mode};
 ghost use Rattle.gl_tracked.specs.Step.{number_asked};
 ghost use Rattle.gl_tracked.specs.Tracked.{alignments, alignment_names, array_sizes, arrays, capabilities, colour_types, units, vertex_types};
 
+use crate::enumerants::{are_factors, is_comparison, is_face, is_mode, is_shading, is_winding};
 use crate::finding::Finding;
 use crate::tracked::Tracked;
 use gl_words::{Call, GlError};
@@ -33,22 +35,35 @@ impl Tracked {
     {
         match call {
             Call::ActiveTexture { texture } => Finding::Fault(enum_unless(is_unit(*texture))),
+            Call::AlphaFuncx { func, .. } => Finding::Fault(enum_unless(is_comparison(*func))),
+            Call::BlendFunc { sfactor, dfactor } => Finding::Fault(enum_unless(are_factors(
+                *sfactor, *dfactor,
+            ))),
             Call::Clear { mask } => Finding::Fault(value_unless(is_known_mask(*mask))),
             Call::ClientActiveTexture { texture } => Finding::Fault(enum_unless(is_unit(*texture))),
             Call::ColorPointer { .. }
             | Call::NormalPointer { .. }
             | Call::TexCoordPointer { .. }
             | Call::VertexPointer { .. } => Finding::Fault(array_fault(call)),
+            Call::CullFace { mode } => Finding::Fault(enum_unless(is_face(*mode))),
+            Call::DepthFunc { func } => Finding::Fault(enum_unless(is_comparison(*func))),
+            Call::Disable { cap } => Finding::Fault(enum_unless(is_capability(*cap))),
             Call::DisableClientState { array } => Finding::Fault(enum_unless(is_array_name(
                 *array,
             ))),
+            Call::DrawArrays { mode, first, count } => {
+                Finding::Fault(draw_fault(*mode, *first, *count))
+            }
+            Call::Enable { cap } => Finding::Fault(enum_unless(is_capability(*cap))),
             Call::EnableClientState { array } => Finding::Fault(enum_unless(is_array_name(*array))),
+            Call::FrontFace { mode } => Finding::Fault(enum_unless(is_winding(*mode))),
             Call::Frustumx { .. } | Call::Orthox { .. } => Finding::Fault(sides_fault(call)),
             Call::GetFixedv { pname, .. } => Finding::Fault(enum_unless(is_fixed_name(*pname))),
             Call::GetIntegerv { pname, .. } => self.find_integer(*pname),
             Call::GetPointerv { pname, .. } => self.find_pointer(*pname),
             Call::IsEnabled { cap } => self.find_enabled(*cap),
             Call::MatrixMode { mode } => Finding::Fault(enum_unless(is_matrix_mode(*mode))),
+            Call::MultiTexCoord4x { target, .. } => Finding::Fault(enum_unless(is_unit(*target))),
             Call::PixelStorei { pname, param } => Finding::Fault(alignment_fault(*pname, *param)),
             Call::PopMatrix => Finding::Fault(error_unless(
                 self.depth() > 1,
@@ -65,6 +80,10 @@ impl Tracked {
                 kind,
                 ..
             } => Finding::Fault(pixels_fault(*width, *height, *format, *kind)),
+            Call::Scissor { width, height, .. } => Finding::Fault(value_unless(is_extent(
+                *width, *height,
+            ))),
+            Call::ShadeModel { mode } => Finding::Fault(enum_unless(is_shading(*mode))),
             Call::Viewport { width, height, .. } => Finding::Fault(value_unless(is_extent(
                 *width, *height,
             ))),
@@ -216,6 +235,20 @@ fn alignment_fault(name: u32, alignment: i32) -> Option<GlError>
 {
     if is_alignment_name(name) {
         value_unless(is_alignment(alignment))
+    } else {
+        Some(GlError::InvalidEnum)
+    }
+}
+
+/// The first error of DrawArrays (sections 2.6.1 and 2.8).
+#[tactic(auto, unfolding(crate::specs::Fault::first_failed))]
+fn draw_fault(mode: u32, first: i32, count: i32) -> Option<GlError>
+    ensures { result ≡ first_failed (
+        (is_among modes mode, GlError.InvalidEnum) ∷
+        (is_drawable first count, GlError.InvalidValue) ∷ []) }
+{
+    if is_mode(mode) {
+        value_unless(is_drawable(first, count))
     } else {
         Some(GlError::InvalidEnum)
     }
@@ -389,10 +422,18 @@ fn is_frustum(left: i32, right: i32, bottom: i32, top: i32, near: i32, far: i32)
     0 < near && 0 < far && is_box(left, right, bottom, top, near, far)
 }
 
-/// Whether neither side of a viewport is below zero (section 2.10.1).
+/// Whether neither side of a viewport or a scissor is below zero (sections 2.10.1 and 4.1.2).
 #[tactic(auto, unfolding(crate::specs::Fault::is_extent))]
 fn is_extent(width: i32, height: i32) -> bool
     ensures { result ≡ is_extent width height }
 {
     0 <= width && 0 <= height
+}
+
+/// Whether so many elements from a first one on can be drawn (section 2.8, the most own).
+#[tactic(auto, unfolding(crate::specs::Fault::is_drawable))]
+fn is_drawable(first: i32, count: i32) -> bool
+    ensures { result ≡ is_drawable first count }
+{
+    0 <= first && 0 <= count && count <= 65536
 }

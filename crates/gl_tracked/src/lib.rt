@@ -3,6 +3,7 @@
 
 mod arrays;
 mod element;
+mod enumerants;
 mod fault;
 mod finding;
 mod gets;
