@@ -12,7 +12,7 @@ use Rattle.gl_tracked.specs.declared.tracked.Tracked.{Tracked}
 use Rattle.gl_tracked.specs.Element.{element_at, element_bytes, step_over}
 use Rattle.array_capture.specs.Law.{Cover, LiesInOne, Serve}
 use Rattle.array_capture.specs.Pieces.{greatest_of, least_of, memory_end, part_before, parts_in, pieces_at, pieces_between, pieces_of_draw, pieces_of_matrix, span_of}
-use Rattle.array_capture.specs.Ranges.{arrays_read, places_drawn, range_of_matrix, ranges_at, ranges_of_draw}
+use Rattle.gl_tracked.specs.Ranges.{arrays_read, places_drawn, range_of_matrix, ranges_at, ranges_of_draw}
 use Rattle.array_capture.proofs.Parts.{cover-serve, lies_in_part, lies_left, lies_right}
 
 -- a place of an array is one from the least to the greatest

@@ -13,7 +13,7 @@ use Rattle.gl_tracked.specs.declared.tracked.ArrayState.{ArrayState}
 use Rattle.gl_tracked.specs.declared.tracked.Tracked.{Tracked}
 use Rattle.gl_tracked.specs.Element.{arrays_in_order}
 use Rattle.array_capture.specs.Pieces.{greatest_of, least_of, memory_end, part_before, parts_in, pieces_at, pieces_between, pieces_of_draw, pieces_of_matrix, span_of}
-use Rattle.array_capture.specs.Ranges.{arrays_read, is_client, places_drawn, range_of_matrix}
+use Rattle.gl_tracked.specs.Ranges.{arrays_read, is_client, places_drawn, range_of_matrix}
 use Rattle.array_capture.proofs.Parts.{memory_end-memory_of}
 
 least_of-range : (place more : ℕ) → least_of place (range_with_len (place + 1) more) ≡ place

@@ -6,7 +6,7 @@ use Rattle.gl_memory.specs.Segment.{Segment}
 use Rattle.gl_tracked.specs.declared.tracked.ArrayState.{ArrayState}
 use Rattle.gl_tracked.specs.declared.tracked.Tracked.{Tracked}
 use Rattle.gl_tracked.specs.Element.{element_at}
-use Rattle.array_capture.specs.Ranges.{arrays_read, places_drawn, range_of_matrix}
+use Rattle.gl_tracked.specs.Ranges.{arrays_read, places_drawn, range_of_matrix}
 
 -- the least of a place and others; own
 unfoldable pub least_of : ℕ → List ℕ → ℕ

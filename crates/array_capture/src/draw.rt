@@ -6,7 +6,7 @@ ghost use Rattle.gl_memory.specs.ClientMemory.{memory_of};
 ghost use Rattle.gl_tracked.specs.Element.{arrays_in_order};
 ghost use Rattle.gl_tracked.specs.Tracked.{IsArray, IsSound};
 ghost use Rattle.array_capture.specs.Pieces.{part_before, pieces_between, pieces_of_draw, span_of};
-ghost use Rattle.array_capture.specs.Ranges.{is_client};
+ghost use Rattle.gl_tracked.specs.Ranges.{is_client};
 
 use crate::part::push_part;
 use gl_memory::{ClientMemory, Piece, Pieces};
@@ -89,7 +89,7 @@ fn push_spans(pieces: &mut Pieces, arrays: &[ArrayState], least: u32, greatest: 
 }
 
 /// Puts the piece for an array behind the other pieces, where draws read it from client memory.
-#[tactic(auto, unfolding(crate::specs::Ranges::is_client))]
+#[tactic(auto, unfolding(gl_tracked::specs::Ranges::is_client))]
 fn push_span(pieces: &mut Pieces, array: &ArrayState, least: u32, greatest: u32, end: u32)
     requires array { IsArray array.now }
     requires order { least ≤ greatest }

@@ -3,7 +3,7 @@
 ghost use Rattle.std.specs.Prelude.{ℕ, ℤ, [], ◌∷◌};
 ghost use Rattle.array_capture.specs.Law.{Serve};
 ghost use Rattle.array_capture.specs.Pieces.{pieces_of_draw, pieces_of_matrix};
-ghost use Rattle.array_capture.specs.Ranges.{range_of_matrix, ranges_of_draw};
+ghost use Rattle.gl_tracked.specs.Ranges.{range_of_matrix, ranges_of_draw};
 
 use gl_memory::Memory;
 use gl_tracked::Tracked;

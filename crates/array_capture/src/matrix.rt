@@ -3,7 +3,7 @@
 ghost use Rattle.std.specs.Prelude.{◌≡◌};
 ghost use Rattle.gl_memory.specs.ClientMemory.{memory_of};
 ghost use Rattle.array_capture.specs.Pieces.{pieces_of_matrix};
-ghost use Rattle.array_capture.specs.Ranges.{range_of_matrix};
+ghost use Rattle.gl_tracked.specs.Ranges.{range_of_matrix};
 
 use crate::part::push_part;
 use gl_memory::{ClientMemory, Piece, Pieces};
@@ -22,7 +22,7 @@ pub fn pieces_of_matrix(pointer: u32, memory: &ClientMemory) -> Pieces
 }
 
 /// Where the matrix at a pointer lies (section 2.10.2).
-#[tactic(auto, unfolding(crate::specs::Ranges::range_of_matrix))]
+#[tactic(auto, unfolding(gl_tracked::specs::Ranges::range_of_matrix))]
 fn range_of_matrix(pointer: u32) -> Piece
     ensures { result ≡ range_of_matrix pointer }
 {
