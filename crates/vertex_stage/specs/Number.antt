@@ -24,11 +24,15 @@ fixed_of kind integer =
 abbrev pub missing : ℕ → ℤ
 missing part = if part == 3 then pos 65536 else pos 0
 
+-- the memory in which an array lies: client memory, or where it lies in a buffer none, since there are no buffers yet; sections 2.8 and 2.9
+unfoldable pub memory_of_array : ArrayState → List Segment → List Segment
+memory_of_array array memory = if array.buffer == 0 then memory else []
+
 -- a part of the element at a place of an array, counted from 0: its number, or what stands for a missing one; sections 2.7 and 2.8
 unfoldable pub element_part : ArrayState → List Segment → ℕ → ℕ → ℤ
 element_part array memory place part =
     if nat_lt part (number_count array.size)
-    then fixed_of array.kind (integer_at array.kind memory ((element_at array place).start + part * number_bytes array.kind))
+    then fixed_of array.kind (integer_at array.kind (memory_of_array array memory) ((element_at array place).start + part * number_bytes array.kind))
     else missing part
 
 -- the four parts of the element at a place of an array; sections 2.7 and 2.8

@@ -84,13 +84,17 @@ pub record HasArrays (stage : Stage) : Type 0 where
   pub first_unit : IsArray stage.first_unit.coordinates
   pub second_unit : IsArray stage.second_unit.coordinates
 
--- two memories have the same bytes where the element at a place of an array lies, if the array is enabled; section 2.8
-abbrev pub AgreeIn : List Segment → List Segment → ArrayState → ℕ → Type 0
-AgreeIn m n array place = array.enabled ≡ true → (at : ℕ) → LiesIn at (element_at array place) → byte_at m at ≡ byte_at n at
+-- two memories have the same bytes where the element at a place of an array lies, if it lies in client memory; sections 2.8 and 2.9
+abbrev pub AgreeOn : List Segment → List Segment → ArrayState → ℕ → Type 0
+AgreeOn m n array place = array.buffer ≡ 0 → (at : ℕ) → LiesIn at (element_at array place) → byte_at m at ≡ byte_at n at
 
--- two memories have the same bytes where the elements at a place lie, of the vertices and of each other array that is enabled; section 2.8
+-- the same, if the array is enabled; section 2.8
+abbrev pub AgreeIn : List Segment → List Segment → ArrayState → ℕ → Type 0
+AgreeIn m n array place = array.enabled ≡ true → AgreeOn m n array place
+
+-- two memories have the same bytes where the elements at a place lie in client memory, of the vertices and of each other array that is enabled; sections 2.8 and 2.9
 pub record AgreeAt (stage : Stage) (m n : List Segment) (place : ℕ) : Type 0 where
-  pub vertex : (at : ℕ) → LiesIn at (element_at stage.vertex place) → byte_at m at ≡ byte_at n at
+  pub vertex : AgreeOn m n stage.vertex place
   pub colour : AgreeIn m n stage.colour place
   pub first_unit : AgreeIn m n stage.first_unit.coordinates place
   pub second_unit : AgreeIn m n stage.second_unit.coordinates place

@@ -3,12 +3,12 @@
 ghost use Rattle.std.specs.Prelude.{◌≡◌, ◌≤◌, ◌<◌, ◌^◌, ◌+◌, ◌-◌, ◌*◌, nat_lt, if◌then◌else◌};
 ghost use Rattle.gl_tracked.specs.Tracked.{IsArray};
 ghost use Rattle.gl_tracked.specs.Element.{element_at, number_bytes, number_count};
-ghost use Rattle.vertex_stage.specs.Number.{integer_at, fixed_of, missing, element_part, element_parts, given_or};
+ghost use Rattle.vertex_stage.specs.Number.{integer_at, fixed_of, memory_of_array, missing, element_part, element_parts, given_or};
 
 use gl_memory::{Memory, read_i32, read_u16};
 use gl_tracked::ArrayState;
 
-/// How many bytes a number of a type has.
+/// How many bytes a number of a type has; section 2.8.
 #[tactic(auto, unfolding(gl_tracked::specs::Element::number_bytes))]
 fn number_bytes(kind: u32) -> u64
     ensures bytes { result ≡ number_bytes kind }
@@ -22,7 +22,7 @@ fn number_bytes(kind: u32) -> u64
     }
 }
 
-/// The number of a type at a place, as a fixed number.
+/// The number of a type at a place, as a fixed number; sections 2.7 and 2.8, the rounding own.
 #[tactic(auto, unfolding(crate::specs::Number::integer_at, crate::specs::Number::fixed_of))]
 fn fixed_at<M: Memory>(memory: &M, kind: u32, place: u64) -> i32
     requires place { place < 2 ^ 63 - 4 }
@@ -34,6 +34,21 @@ fn fixed_at<M: Memory>(memory: &M, kind: u32, place: u64) -> i32
         0x1402 => 65536 * i32::from(read_u16(memory, place).cast_signed()),
         0x140C => read_i32(memory, place),
         _ => 0,
+    }
+}
+
+/// The number at a place of the memory in which an array lies, as a fixed number: zero where that is a buffer, since there
+/// are no buffers yet.
+#[tactic(auto, using(crate::proofs::Buffers::number_in_buffer), unfolding(crate::specs::Number::memory_of_array))]
+fn number_at<M: Memory>(array: &ArrayState, memory: &M, place: u64) -> i32
+    requires place { place < 2 ^ 63 - 4 }
+    ensures { result ≡ fixed_of array.now.kind
+        (integer_at array.now.kind (memory_of_array array.now (M.segments memory.now)) place) }
+{
+    if array.buffer == 0 {
+        fixed_at(memory, array.kind, place)
+    } else {
+        0
     }
 }
 
@@ -49,7 +64,7 @@ fn start_of(array: &ArrayState, place: u32) -> u64
     array.element(place).start
 }
 
-/// The four parts of the element at a place.
+/// The four parts of the element at a place; sections 2.7 and 2.8.
 #[tactic(auto, unfolding(crate::specs::Number::element_part, crate::specs::Number::element_parts))]
 pub(crate) fn parts<M: Memory>(array: &ArrayState, memory: &M, place: u32) -> [i32; 4]
     requires array { IsArray array.now }
@@ -66,16 +81,17 @@ pub(crate) fn parts<M: Memory>(array: &ArrayState, memory: &M, place: u32) -> [i
     ]
 }
 
-/// One part of an element, which stands at a place of memory if the element has it.
+/// One part of an element, which stands at a place of memory if the element has it; sections 2.7 and 2.8.
 fn part<M: Memory>(array: &ArrayState, memory: &M, place: u64, number: u32) -> i32
     requires place { place < 2 ^ 63 - 4 }
     requires few { number < 4 }
     ensures { result ≡ (if nat_lt number (number_count array.now.size)
-        then fixed_of array.now.kind (integer_at array.now.kind (M.segments memory.now) place)
+        then fixed_of array.now.kind
+        (integer_at array.now.kind (memory_of_array array.now (M.segments memory.now)) place)
         else missing number) }
 {
     if array.size > number as i32 {
-        fixed_at(memory, array.kind, place)
+        number_at(array, memory, place)
     } else if number == 3 {
         65536
     } else {

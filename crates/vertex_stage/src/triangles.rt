@@ -3,7 +3,7 @@
 ghost use Rattle.std.specs.Prelude.{◌≡◌, ◌<◌, ◌+◌, ◌^◌};
 ghost use Rattle.vertex_stage.specs.Triangles.{strip_triangle, triangle_at, triangle_count};
 
-/// Three vertices of a triangle by their places among those that are drawn, from 0; section 2.6.1.
+/// Three vertices of a triangle by their places among those that are drawn, from 0; section 2.6.1 of OpenGL ES 1.1.12.
 #[derive(Clone, Copy, Debug, PartialEq, Eq)]
 pub struct Triple {
     pub first: u32,
@@ -11,7 +11,8 @@ pub struct Triple {
     pub third: u32,
 }
 
-/// How many triangles so many vertices make in a mode: none in modes of points and lines; section 2.6.1.
+/// How many triangles so many vertices make in a mode: none in modes of points and lines; section 2.6.1 of OpenGL ES
+/// 1.1.12.
 #[tactic(auto, unfolding(crate::specs::Triangles::triangle_count))]
 pub fn triangle_count(mode: u32, count: u32) -> u32
     ensures { result ≡ triangle_count mode count }
@@ -23,7 +24,7 @@ pub fn triangle_count(mode: u32, count: u32) -> u32
     }
 }
 
-/// The triangle with a number, from 0, of those that a mode makes of so many vertices; section 2.6.1.
+/// The triangle with a number, from 0, of those that a mode makes of so many vertices; section 2.6.1 of OpenGL ES 1.1.12.
 #[tactic(auto, unfolding(crate::specs::Triangles::triangle_at, crate::specs::Triangles::triangle_count))]
 pub fn triangle(mode: u32, count: u32, number: u32) -> Triple
     requires number { number < triangle_count mode count }
@@ -47,7 +48,7 @@ pub fn triangle(mode: u32, count: u32, number: u32) -> Triple
     }
 }
 
-/// The triangle at a place of a strip.
+/// The triangle at a place of a strip; section 2.6.1.
 fn strip_triangle(number: u32) -> Triple
     requires number { number + 2 < 2 ^ 32 }
     ensures { result ≡ strip_triangle number }

@@ -10,10 +10,10 @@ use crate::stage::{Stage, Texturing};
 use gl_memory::Memory;
 use triangle_raster::Vertex;
 
-/// The bound of coordinates: 2048 in 16.16 fixed.
+/// The bound of coordinates: 2048 in 16.16 fixed; own.
 const MOST: i32 = 134_217_728;
 
-/// A coordinate clamped to 2048 in 16.16 fixed.
+/// A coordinate clamped to 2048 in 16.16 fixed; own.
 #[tactic(auto, unfolding(crate::specs::Vertex::clamped_coordinate))]
 fn clamped_coordinate(number: i32) -> i32
     ensures value { result ≡ clamped_coordinate number }
@@ -28,7 +28,7 @@ fn clamped_coordinate(number: i32) -> i32
     }
 }
 
-/// Four coordinates, each clamped.
+/// Four coordinates, each clamped; own.
 fn clamped(numbers: [i32; 4]) -> [i32; 4]
     ensures value { result ≡ each_part clamped_coordinate numbers }
     ensures near { All (IsWithin (2 ^ 27)) result }
@@ -41,7 +41,7 @@ fn clamped(numbers: [i32; 4]) -> [i32; 4]
     ]
 }
 
-/// A part of a colour clamped to 0 to 1.
+/// A part of a colour clamped to 0 to 1; section 2.12.1, for each vertex own.
 #[tactic(auto, unfolding(crate::specs::Vertex::clamped_shade))]
 fn clamped_shade(number: i32) -> i32
     ensures value { result ≡ clamped_shade number }
@@ -56,7 +56,7 @@ fn clamped_shade(number: i32) -> i32
     }
 }
 
-/// Four parts of a colour, each clamped.
+/// Four parts of a colour, each clamped; section 2.12.1, for each vertex own.
 fn clamped_colour(numbers: [i32; 4]) -> [i32; 4]
     ensures value { result ≡ each_part clamped_shade numbers }
     ensures near { All (IsWithin (2 ^ 27)) result }
@@ -69,7 +69,7 @@ fn clamped_colour(numbers: [i32; 4]) -> [i32; 4]
     ]
 }
 
-/// A vertex with the colour of another.
+/// A vertex with the colour of another; section 2.12.7.
 #[tactic(auto, unfolding(crate::specs::Vertex::with_colour_from))]
 fn with_colour_from(other: &Vertex, vertex: Vertex) -> Vertex
     requires other { IsCorner other.now }
@@ -89,7 +89,7 @@ fn with_colour_from(other: &Vertex, vertex: Vertex) -> Vertex
 }
 
 impl Texturing {
-    /// s, t, r and q of the vertex at a place, by the unit's matrix and clamped.
+    /// s, t, r and q of the vertex at a place, by the unit's matrix and clamped; sections 2.7, 2.8 and 2.10.2, the clamp own.
     #[tactic(auto, unfolding(crate::specs::Vertex::coordinates_of))]
     fn coordinates<M: Memory>(&self, memory: &M, place: u32) -> [i32; 4]
         requires array { IsArray self.now.coordinates }
@@ -103,7 +103,7 @@ impl Texturing {
 }
 
 impl Stage {
-    /// The clip coordinates of the vertex at a place.
+    /// The clip coordinates of the vertex at a place; section 2.10, the clamp own.
     #[tactic(auto, unfolding(crate::specs::Vertex::clip_position))]
     fn position<M: Memory>(&self, memory: &M, place: u32) -> [i32; 4]
         requires array { IsArray self.now.vertex }
@@ -115,7 +115,7 @@ impl Stage {
         clamped(self.projection.apply(seen))
     }
 
-    /// The colour of the vertex at a place.
+    /// The colour of the vertex at a place, clamped; sections 2.7, 2.8 and 2.12.1.
     #[tactic(auto, unfolding(crate::specs::Vertex::colour_of))]
     fn colour<M: Memory>(&self, memory: &M, place: u32) -> [i32; 4]
         requires array { IsArray self.now.colour }
@@ -126,7 +126,8 @@ impl Stage {
         clamped_colour(given_or(&self.colour, self.current_colour, memory, place))
     }
 
-    /// The vertex of the elements at a place, from 0, transformed (16.16 fixed); sections 2.8, 2.10 and 2.12.
+    /// The vertex of the elements at a place, from 0, transformed (16.16 fixed); sections 2.8, 2.10 and 2.12 of OpenGL ES
+    /// 1.1.12.
     #[tactic(auto, unfolding(crate::specs::Vertex::vertex_of, crate::specs::Vertex::values_of))]
     pub fn vertex<M: Memory>(&self, memory: &M, place: u32) -> Vertex
         requires arrays { HasArrays self.now }
@@ -151,7 +152,7 @@ impl Stage {
     }
 
     /// The corners of a triangle of the elements at three places: where shading is flat, all have the colour of the third;
-    /// section 2.12.7.
+    /// section 2.12.7 of OpenGL ES 1.1.12.
     #[tactic(auto, unfolding(crate::specs::Vertex::corners_of))]
     pub fn corners<M: Memory>(&self, memory: &M, first: u32, second: u32, third: u32) -> [Vertex; 3]
         requires arrays { HasArrays self.now }
