@@ -1,0 +1,10 @@
+pub mod Depths
+pub mod Putting
+pub mod Areas
+pub mod Cells
+pub mod Shades
+pub mod Alike
+pub mod RowChanges
+pub mod Culling
+pub mod DrawChanges
+pub mod DrawReads

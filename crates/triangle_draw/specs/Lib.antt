@@ -1,0 +1,10 @@
+pub mod Drawing
+pub mod Triangle
+pub mod Draw
+pub mod Law
+pub mod Area
+pub mod Fragments
+pub use Rattle.gl_memory.specs.Segment
+pub use Rattle.fragment_ops.specs.Frame
+pub use Rattle.fragment_ops.specs.State
+pub use Rattle.vertex_stage.specs.Vertex

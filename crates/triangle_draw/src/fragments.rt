@@ -1,0 +1,77 @@
+//! What a fragment brings to its place, and the fragments of a row.
+
+ghost use Rattle.std.specs.Prelude.{◌≡◌, Some, All};
+ghost use Rattle.triangle_raster.specs.declared.fragment.Fragment.{Fragment};
+ghost use Rattle.triangle_raster.specs.Row.{first_spot, rest};
+ghost use Rattle.fragment_ops.specs.Frame.{frame_changed};
+ghost use Rattle.fragment_ops.specs.State.{number_at, AreWithinOne, IsWithinOne};
+ghost use Rattle.triangle_draw.specs.Drawing.{IsDrawing};
+ghost use Rattle.triangle_draw.specs.Fragments.{cell_after_all};
+ghost use Rattle.triangle_draw.specs.Triangle.{colour_of, depth_between};
+
+use crate::drawing::Drawing;
+use fragment_ops::{Frame, byte};
+use triangle_raster::{Fragment, Row, Spot};
+
+/// A depth between those of the near and the far plane: 0 becomes that of the near one, 65535 that of the far one.
+#[tactic(auto, unfolding(crate::specs::Triangle::depth_between))]
+fn depth_between(range: [i32; 2], depth: u16) -> u16
+    requires near { IsWithinOne (number_at range 0) }
+    requires far { IsWithinOne (number_at range 1) }
+    ensures { result ≡ depth_between range depth }
+{
+    let near = u64::from(range[0].unsigned_abs());
+    let far = u64::from(range[1].unsigned_abs());
+    let depth = u64::from(depth);
+    ((near * (65535 - depth) + far * depth) / 65536) as u16
+}
+
+/// The colour of a fragment in bytes: its first four values.
+#[tactic(auto, unfolding(crate::specs::Triangle::colour_of))]
+fn colour_of(fragment: &Fragment) -> [u8; 4]
+    requires shades { AreWithinOne fragment.now.values }
+    ensures { result ≡ colour_of fragment.now }
+{
+    let values = &fragment.values;
+    [
+        byte(values[0]),
+        byte(values[1]),
+        byte(values[2]),
+        byte(values[3]),
+    ]
+}
+
+impl Drawing {
+    /// Puts the first fragment of a row, which lies at a spot, or leaves it out where the depth test fails it: then its
+    /// values aren't made.
+    fn put_first(&self, spot: Spot, row: &mut Row, frame: &mut Frame)
+        requires drawing { IsDrawing self.now }
+        requires spot { Some spot ≡ first_spot row.old }
+        requires shades { All (λ f. AreWithinOne f.values) row.old }
+        ensures row { row.new ≡ rest row.old }
+        ensures frame { frame_changed (cell_after_all self.now row.new) frame.new
+            ≡ frame_changed (cell_after_all self.now row.old) frame.old }
+    {
+        let depth = depth_between(self.depth_range, spot.depth);
+        if frame.hides(&self.fragments, spot.x, spot.y, depth) {
+            row.skip();
+            return;
+        }
+        if let Some(fragment) = row.next() {
+            let colour = colour_of(&fragment);
+            frame.put(&self.fragments, spot.x, spot.y, depth, colour);
+        }
+    }
+
+    /// Puts the fragments of a row, one after the other.
+    pub(crate) fn put_row(&self, row: Row, frame: &mut Frame)
+        requires drawing { IsDrawing self.now }
+        requires shades { All (λ f. AreWithinOne f.values) row }
+        ensures { frame.new ≡ frame_changed (cell_after_all self.now row) frame.old }
+    {
+        let mut left = row;
+        while let Some(spot) = left.look() {
+            self.put_first(spot, &mut left, frame);
+        }
+    }
+}

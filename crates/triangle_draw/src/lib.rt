@@ -1,0 +1,12 @@
+//! A draw: the triangles of its vertices, put into a frame.
+#![tactic(auto)]
+
+mod area;
+mod drawing;
+mod fragments;
+pub mod laws;
+mod rows;
+mod triangles;
+
+pub use drawing::Drawing;
+pub use triangles::draw;
