@@ -32,7 +32,7 @@ module _ (st : RecorderView) (call : Call) where
   unfolding recorded_after
   recorded_after-asked memory number asked = ap (λ (o : Option ℤ). recorded_unless o st call memory) asked
 
--- no call reads memory yet
+-- the recorder doesn't look at memory
 alone : ReadsAlone (λ (st : RecorderView). st.tracked) RecorderSteps
 alone st call m n st2 reply in_range bytes others agree =
     (λ step. (step.0 ∙ recorded_after-memory st call m n, step.1), λ step. (step.0 ∙ recorded_after-memory st call n m, step.1))

@@ -27,7 +27,7 @@ pub trait Machine: Drop {
     ghost laws: { IsDriver tracked steps };
 }
 
-/// A driver whose calls return.
+/// A driver whose calls return. Own.
 pub trait Driver: Machine {
     /// Carries a call out on a memory. Want of memory leaves the driver as it was.
     fn call<T: Threads + Sync, M: Memory>(
@@ -42,7 +42,7 @@ pub trait Driver: Machine {
         ensures err { OnErr result (self.new ≡ self.old) };
 }
 
-/// A driver whose calls may wait, with the states and the relation of [`Machine`].
+/// A driver whose calls may wait, with the states and the relation of [`Machine`]. Own.
 pub trait WaitDriver: Machine {
     /// Carries a call out on a memory. Want of memory leaves the driver as it was.
     fn call<T: Threads + Sync, W: Wait, M: Memory>(

@@ -33,7 +33,7 @@ impl Model for Recorder {
 }
 
 impl Recorder {
-    /// A recorder that met no call. It takes no memory.
+    /// A recorder that met no call. It takes no memory. Own.
     pub fn new(alloc: Global) -> Recorder
         ensures { result ≡ record { tracked = first_tracked; calls = [] } }
     {
@@ -43,7 +43,7 @@ impl Recorder {
         }
     }
 
-    /// The calls that it met, in order.
+    /// The calls that it met, in order. Own.
     pub fn calls(&self) -> &[Call]
         ensures { result.now ≡ self.now.calls }
     {
