@@ -3,7 +3,7 @@ use Rattle.std.proofs.Common.{◌≡◌, ℕ, ◌+◌, ◌-◌, ◌≤◌, ◌�
 use Rattle.std.specs.Prelude.{◌==◌, slice_index_or, slice_set}
 use Rattle.std.proofs.lemmas.Bool.{cond_both}
 use Rattle.gl_words.specs.declared.call.Call.{Call}
-use Rattle.gl_words.specs.declared.call.Call.TheVariants.{ColorPointer, DisableClientState, EnableClientState, Frustumx, LoadIdentity, NormalPointer, Orthox, PixelStorei, PopMatrix, PushMatrix, Rotatex, Scalex, TexCoordPointer, Translatex, VertexPointer}
+use Rattle.gl_words.specs.declared.call.Call.TheVariants.{ColorPointer, DisableClientState, EnableClientState, Frustumx, LoadIdentity, LoadMatrixx, MultMatrixx, NormalPointer, Orthox, PixelStorei, PopMatrix, PushMatrix, Rotatex, Scalex, TexCoordPointer, Translatex, VertexPointer}
 use Rattle.gl_memory.specs.Segment.{Segment}
 use Rattle.fixed_transform.specs.declared.matrix.Matrix.{Matrix}
 use Rattle.fixed_transform.specs.Stack.{top_of, below_top}
@@ -141,6 +141,8 @@ module _ (tracked : Tracked) (s : StacksView) (sound : IsSound tracked) (deep : 
   depths-set_by (EnableClientState array) memory = with_enabled-depths tracked array true ∙ deep
   depths-set_by (Frustumx left right bottom top near far) memory = topped _
   depths-set_by LoadIdentity memory = topped _
+  depths-set_by (LoadMatrixx matrix) memory = topped _
+  depths-set_by (MultMatrixx matrix) memory = topped _
   depths-set_by (NormalPointer kind stride pointer) memory = with_pointer-depths tracked 0x8075 tracked.normal.size kind stride pointer ∙ deep
   depths-set_by (Orthox left right bottom top near far) memory = topped _
   depths-set_by (PixelStorei pname param) memory = with_alignment-depths tracked pname param ∙ deep

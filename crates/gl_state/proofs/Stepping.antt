@@ -1,18 +1,23 @@
 -- What a call does to private state with an error and without one, and what drivers need of it for their laws.
-use Rattle.std.proofs.Common.{◌≡◌, ◌≢◌, ℤ, false, List, [], ◌∷◌, Option, Some, None, refl, sym, ap, ◌∙◌}
+use Rattle.std.proofs.Common.{◌≡◌, ◌≢◌, ℕ, ℤ, false, List, [], ◌∷◌, Option, Some, None, refl, sym, subst, ap, ◌∙◌}
 use Rattle.std.specs.Option.{option_or}
 use Rattle.std.proofs.lemmas.Option.{none-some}
 use Rattle.gl_words.specs.Call.{is_answering}
 use Rattle.gl_words.specs.declared.call.Call.{Call}
-use Rattle.gl_words.specs.declared.call.Call.TheVariants.{Clear, GetError, GetFixedv, GetIntegerv, GetPointerv, IsEnabled, ReadPixels}
+use Rattle.gl_words.specs.declared.call.Call.TheVariants.{Clear, DrawArrays, GetError, GetFixedv, GetIntegerv, GetPointerv, IsEnabled, LoadMatrixx, MultMatrixx, ReadPixels}
 use Rattle.gl_words.specs.declared.error.GlError.{GlError}
 use Rattle.gl_memory.specs.Segment.{Segment}
+use Rattle.fixed_transform.specs.declared.matrix.Matrix.{Matrix}
+use Rattle.fixed_transform.specs.Stack.{below_top}
 use Rattle.gl_tracked.specs.declared.tracked.Tracked.{Tracked}
 use Rattle.gl_tracked.specs.Fault.{fault_of}
 use Rattle.gl_tracked.specs.Gets.{number_beside}
+use Rattle.gl_tracked.specs.Ranges.{range_of_matrix}
+use Rattle.gl_tracked.specs.Reads.{AgreesOn, Ranges, Reads}
 use Rattle.driver_trait.specs.Reply.{Nothing, Numbers}
-use Rattle.gl_tracked.specs.Step.{set_by, unless_fault, tracked_after, number_asked}
+use Rattle.gl_tracked.specs.Step.{set_by, unless_fault, tracked_after, number_asked, ranges_of, reads_of}
 use Rattle.gl_tracked.proofs.Asking.{fault_of-asked}
+use Rattle.gl_tracked.proofs.Stepping.{reads_of-no_fault}
 use Rattle.gl_state.specs.declared.plan.Plan.{Plan}
 use Rattle.gl_state.specs.declared.plan.Plan.TheVariants.{Draw, Fault, Known, Local, Query, Read}
 use Rattle.gl_state.specs.declared.settings.Settings.{Settings}
@@ -20,11 +25,13 @@ use Rattle.gl_state.specs.Event.{EventReplied}
 use Rattle.gl_state.specs.Gets.{alone, capability_rows, integers_asked, limit_rows, list_beside, rectangle_rows, setting_rows, truth_asked}
 use Rattle.gl_state.specs.Private.{PrivateView}
 use Rattle.gl_state.specs.Stacks.{StacksView}
-use Rattle.gl_state.specs.Step.{error_set_by, fault_in, numbers_replied, plan_by, plan_found, plan_of, private_after, private_reply, settings_set_by, stacks_set_by}
+use Rattle.gl_state.specs.Step.{error_set_by, fault_in, numbers_replied, plan_by, plan_found, plan_of, private_after, private_reply, settings_set_by, stacks_set_by, with_change, with_product}
+use Rattle.gl_state.proofs.Matrices.{matrix_at-agree}
 
 fault_in-plan_by : (fault : Option GlError) (call : Call) → fault_in (plan_by fault call) ≡ fault
 fault_in-plan_by (Some error) call = refl
 fault_in-plan_by None (Clear mask) = refl
+fault_in-plan_by None (DrawArrays mode first count) = refl
 fault_in-plan_by None call = refl
 
 fault_in-plan_found : (asked : Option ℤ) (fault : Option GlError) (call : Call) → ((number : ℤ) → asked ≡ Some number → fault ≡ None) → fault_in (plan_found asked fault call) ≡ fault
@@ -46,6 +53,7 @@ IsUnknown plan = (number : ℤ) → plan ≢ Known number
 plan_by-unknown : (fault : Option GlError) (call : Call) → IsUnknown (plan_by fault call)
 plan_by-unknown (Some error) call number known = absurd (cc)
 plan_by-unknown None (Clear mask) number known = absurd (cc)
+plan_by-unknown None (DrawArrays mode first count) number known = absurd (cc)
 plan_by-unknown None _ number known = absurd (cc)
 
 number_by : (asked : Option ℤ) (fault : Option GlError) (call : Call) (number : ℤ) → plan_found asked fault call ≡ Known number → asked ≡ Some number
@@ -117,6 +125,7 @@ private_after-query p call memory event plan planned query =
 private_after-pixels_by : (p : PrivateView) (call : Call) (memory : List Segment) (event : EventReplied) → plan_by None call ≢ Query → plan_by None call ≢ Local → private_after None p call memory event ≡ p
 unfolding set_by stacks_set_by settings_set_by
 private_after-pixels_by p (Clear mask) memory event query local = refl
+private_after-pixels_by p (DrawArrays mode first count) memory event query local = refl
 private_after-pixels_by p GetError memory event query local = absurd (query refl)
 private_after-pixels_by p (GetFixedv pname params) memory event query local = refl
 private_after-pixels_by p (GetIntegerv pname params) memory event query local = refl
@@ -137,15 +146,37 @@ pub tracked_of-private_after : (p : PrivateView) (call : Call) (memory : List Se
 unfolding tracked_after
 tracked_of-private_after p call memory event = tracked_of-private_after_by (fault_of p.tracked call) p call memory event
 
-private_after-memory_by : (p : PrivateView) (call : Call) (m n : List Segment) (event : EventReplied) → private_after None p call m event ≡ private_after None p call n event
-unfolding set_by stacks_set_by settings_set_by
-private_after-memory_by p (Clear mask) m n event = refl
-private_after-memory_by p _ m n event = refl
+private_after-fault : (p : PrivateView) (call : Call) (m n : List Segment) (event : EventReplied) (fault : Option GlError)
+    → (fault ≡ None → private_after None p call m event ≡ private_after None p call n event) → private_after fault p call m event ≡ private_after fault p call n event
+private_after-fault p call m n event None same = same refl
+private_after-fault p call m n event (Some error) same = refl
 
--- no call reads memory yet
-pub private_after-memory : (fault : Option GlError) (p : PrivateView) (call : Call) (m n : List Segment) (event : EventReplied) → private_after fault p call m event ≡ private_after fault p call n event
-private_after-memory (Some error) p call m n event = refl
-private_after-memory None p call m n event = private_after-memory_by p call m n event
+-- a matrix leaves the same on memories that agree where it lies
+loads_same : (p : PrivateView) (matrix : ℕ) (m n : List Segment) (event : EventReplied) → AgreesOn m n (Ranges (range_of_matrix matrix ∷ []))
+    → private_after None p (LoadMatrixx matrix) m event ≡ private_after None p (LoadMatrixx matrix) n event
+unfolding set_by stacks_set_by settings_set_by
+loads_same p matrix m n event agree =
+    ap (λ (read : Matrix). record p { stacks = with_change (λ matrices. read ∷ below_top matrices) p.tracked p.stacks }) (matrix_at-agree m n matrix agree)
+
+multiplies_same : (p : PrivateView) (matrix : ℕ) (m n : List Segment) (event : EventReplied) → AgreesOn m n (Ranges (range_of_matrix matrix ∷ []))
+    → private_after None p (MultMatrixx matrix) m event ≡ private_after None p (MultMatrixx matrix) n event
+unfolding set_by stacks_set_by settings_set_by
+multiplies_same p matrix m n event agree =
+    ap (λ (read : Matrix). record p { stacks = with_product read p.tracked p.stacks }) (matrix_at-agree m n matrix agree)
+
+private_after-reads_by : (p : PrivateView) (call : Call) (m n : List Segment) (event : EventReplied) → AgreesOn m n (Ranges (ranges_of p.tracked call))
+    → private_after None p call m event ≡ private_after None p call n event
+unfolding ranges_of set_by stacks_set_by settings_set_by
+private_after-reads_by p (LoadMatrixx matrix) m n event agree = loads_same p matrix m n event agree
+private_after-reads_by p (MultMatrixx matrix) m n event agree = multiplies_same p matrix m n event agree
+private_after-reads_by p _ m n event agree = refl
+
+-- the step is the same on memories that agree where the call reads
+pub private_after-reads : (p : PrivateView) (call : Call) (m n : List Segment) (event : EventReplied) → AgreesOn m n (reads_of p.tracked call m)
+    → private_after (fault_of p.tracked call) p call m event ≡ private_after (fault_of p.tracked call) p call n event
+private_after-reads p call m n event agree =
+    private_after-fault p call m n event (fault_of p.tracked call)
+    (λ none. private_after-reads_by p call m n event (subst (λ (reads : Reads). AgreesOn m n reads) (reads_of-no_fault p.tracked call m none) agree))
 
 module _ (p : PrivateView) (event : EventReplied) where
   -- only calls that ask for something are answered

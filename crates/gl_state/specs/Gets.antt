@@ -1,10 +1,11 @@
 -- The numbers that gets give of the private state; section 6.1. Those of its tracked part stand in the crate of tracked state.
-use Rattle.std.specs.Prelude.{ℕ, ℤ, pos, ◌==◌, false, if◌then◌else◌, List, [], ◌∷◌, slice_index_or, Option, unwrap_or}
+use Rattle.std.specs.Prelude.{ℕ, ℤ, pos, ◌==◌, false, List, [], ◌∷◌, slice_index_or, Option, unwrap_or}
 use Rattle.std.specs.Map.{lookup}
 use Rattle.std.specs.Option.{option_map, option_or}
 use Rattle.fixed_transform.specs.Stack.{top_of}
 use Rattle.gl_tracked.specs.Gets.{integer_asked, enabled_asked, number_beside, number_of_truth}
 use Rattle.gl_state.specs.Private.{PrivateView}
+use Rattle.gl_state.specs.Settings.{place_of_unit}
 use Rattle.gl_state.specs.Stacks.{current_of}
 
 -- the list beside a name, in rows of names and lists; own
@@ -17,7 +18,7 @@ alone number = option_map (λ one. one ∷ []) number
 
 -- the active unit as its place: 0 for TEXTURE0, else 1; section 3.7.12
 unfoldable pub active_unit : PrivateView → ℕ
-active_unit p = if p.tracked.active == 0x84C0 then 0 else 1
+active_unit p = place_of_unit p.tracked.active
 
 -- the rows of GetIntegerv that give a number of the settings: CULL_FACE_MODE, FRONT_FACE, SHADE_MODEL, DEPTH_FUNC, ALPHA_TEST_FUNC, BLEND_DST, BLEND_SRC, TEXTURE_BINDING_2D; tables 6.9, 6.10, 6.14 and 6.17
 unfoldable pub setting_rows : PrivateView → List (ℕ × ℤ)

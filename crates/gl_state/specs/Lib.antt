@@ -5,4 +5,6 @@ pub mod Event
 pub mod Gets
 pub mod Step
 pub use Rattle.fixed_transform.specs.Matrix
+pub use Rattle.fragment_ops.specs.Frame
+pub use Rattle.fragment_ops.specs.State
 pub use Rattle.gl_tracked.specs.Tracked

@@ -1,10 +1,10 @@
 -- What contracts see of the private state of a context, and that state at the start. No driver, batch or front stands here.
-use Rattle.std.specs.Prelude.{◌≡◌, ℕ, ◌≤◌, Option, None}
+use Rattle.std.specs.Prelude.{◌≡◌, ℕ, Option, None}
 use Rattle.gl_words.specs.declared.error.GlError.{GlError}
 use Rattle.gl_tracked.specs.declared.tracked.Tracked.{Tracked}
 use Rattle.gl_tracked.specs.Tracked.{first_tracked, IsSound}
 use Rattle.gl_state.specs.declared.settings.Settings.{Settings}
-use Rattle.gl_state.specs.Settings.{first_settings, AreClamped}
+use Rattle.gl_state.specs.Settings.{first_settings, AreAccepted, AreClamped}
 use Rattle.gl_state.specs.Stacks.{StacksView, first_stacks, depths_of}
 
 -- all state of a context but objects and pixels: its number, the sides of its frame in pixels, the recorded error, the tracked part, the stacks, and what else calls set; own
@@ -17,18 +17,12 @@ pub record PrivateView : Type 0 where
   pub stacks : StacksView
   pub settings : Settings
 
--- the tracked part is sound, its depths are those of the stacks, and the clear colour and the viewport are within their bounds; own
+-- the tracked part is sound, its depths are those of the stacks, and the settings are within their bounds and such as calls accept; own
 pub record IsWhole (tracked : Tracked) (stacks : StacksView) (settings : Settings) : Type 0 where
   pub sound : IsSound tracked
   pub depths : tracked.depths ≡ depths_of stacks
   pub clamped : AreClamped settings
-
--- sides of 1 to 256 pixels; own
-pub record AreSides (width height : ℕ) : Type 0 where
-  pub wide : 1 ≤ width
-  pub no_wider : width ≤ 256
-  pub high : 1 ≤ height
-  pub no_higher : height ≤ 256
+  pub accepted : AreAccepted settings
 
 -- a context of this number and these sides at the start: no error, each stack holds the identity; sections 2.5 and 2.10.2
 unfoldable pub first_private : ℕ → ℕ → ℕ → PrivateView

@@ -1,7 +1,9 @@
--- The stacks of matrices of a context, and which of them is the current one; section 2.10.2.
-use Rattle.std.specs.Prelude.{ℕ, ◌==◌, if◌then◌else◌, List, [], ◌∷◌, length}
+-- The stacks of matrices of a context, which of them is the current one, and a matrix in memory; section 2.10.2.
+use Rattle.std.specs.Prelude.{ℕ, ◌+◌, ◌*◌, ◌==◌, ℤ, if◌then◌else◌, List, [], ◌∷◌, length}
+use Rattle.gl_memory.specs.Number.{i32_at}
+use Rattle.gl_memory.specs.Segment.{Segment}
 use Rattle.fixed_transform.specs.declared.matrix.Matrix.{Matrix}
-use Rattle.fixed_transform.specs.Matrix.{identity}
+use Rattle.fixed_transform.specs.Matrix.{identity, with_entries}
 
 -- the stacks of the model view, the projection, and the textures of units 0 and 1, each as the list of its matrices, the top one first; section 2.10.2
 pub record StacksView : Type 0 where
@@ -21,6 +23,10 @@ current_of stacks mode active =
     if mode == 0x1701 then stacks.projection else (
     if active == 0x84C0 then stacks.texture_zero else stacks.texture_one))
 
+-- the stack of the textures of the unit at place 0 or 1; section 2.10.2
+abbrev pub texture_of : StacksView → ℕ → List Matrix
+texture_of stacks place = if place == 0 then stacks.texture_zero else stacks.texture_one
+
 -- the stacks with another current one; section 2.10.2
 abbrev pub with_current : StacksView → ℕ → ℕ → List Matrix → StacksView
 with_current stacks mode active matrices =
@@ -35,3 +41,11 @@ most_of mode = if mode == 0x1700 then 16 else 2
 -- how many matrices each stack holds, in the order of tracked state; own
 abbrev pub depths_of : StacksView → List ℕ
 depths_of stacks = length stacks.model_view ∷ length stacks.projection ∷ length stacks.texture_zero ∷ length stacks.texture_one ∷ []
+
+-- the number in a row and a column of a matrix that lies by columns from a place of memory on, of four bytes each; section 2.10.2
+abbrev pub entry_at : List Segment → ℕ → ℕ → ℕ → ℤ
+entry_at memory place row column = i32_at memory (place + 4 * (4 * column + row))
+
+-- the matrix that lies from a place of memory on; section 2.10.2
+unfoldable pub matrix_at : List Segment → ℕ → Matrix
+matrix_at memory place = with_entries (entry_at memory place)

@@ -1,7 +1,7 @@
--- What a call does to the private state of a context, what it replies, and what it needs beyond that state; sections 2.5, 2.10.1, 2.10.2, 4.2.3, 6.1. An error is handed to each part: who carries the call out finds it once.
-use Rattle.std.specs.Prelude.{ℕ, ℤ, pos, Bool, true, false, List, [], ◌∷◌, Option, Some, None}
+-- What a call does to the private state of a context, what it replies, and what it needs beyond that state; sections 2.5, 2.7, 2.10.1, 2.10.2, 2.12, 3.5.1, 4.1, 4.2 and 6.1. An error is handed to each part: who carries the call out finds it once.
+use Rattle.std.specs.Prelude.{ℕ, ℤ, pos, Bool, true, false, List, [], ◌∷◌, slice_set, Option, Some, None}
 use Rattle.gl_words.specs.declared.call.Call.{Call}
-use Rattle.gl_words.specs.declared.call.Call.TheVariants.{Clear, ClearColorx, Frustumx, GetError, GetFixedv, GetIntegerv, GetPointerv, IsEnabled, LoadIdentity, Orthox, PopMatrix, PushMatrix, ReadPixels, Rotatex, Scalex, Translatex, Viewport}
+use Rattle.gl_words.specs.declared.call.Call.TheVariants.{AlphaFuncx, BlendFunc, Clear, ClearColorx, ClearDepthx, Color4x, ColorMask, CullFace, DepthFunc, DepthMask, DepthRangex, Disable, DrawArrays, Enable, FrontFace, Frustumx, GetError, GetFixedv, GetIntegerv, GetPointerv, IsEnabled, LoadIdentity, LoadMatrixx, MultMatrixx, MultiTexCoord4x, Normal3x, Orthox, PopMatrix, PushMatrix, ReadPixels, Rotatex, Scalex, Scissor, ShadeModel, Translatex, Viewport}
 use Rattle.gl_words.specs.declared.error.GlError.{GlError}
 use Rattle.gl_words.specs.GlError.{code_of}
 use Rattle.gl_memory.specs.Segment.{Segment}
@@ -21,8 +21,8 @@ use Rattle.gl_state.specs.declared.plan.Plan.TheVariants.{Draw, Fault, Known, Lo
 use Rattle.gl_state.specs.Event.{EventReplied}
 use Rattle.gl_state.specs.Gets.{alone, fixed_asked, fixed_length, integers_asked, integers_length, truth_asked}
 use Rattle.gl_state.specs.Private.{PrivateView}
-use Rattle.gl_state.specs.Settings.{clamped_to_one, clamped_origin, clamped_side}
-use Rattle.gl_state.specs.Stacks.{StacksView, current_of, with_current}
+use Rattle.gl_state.specs.Settings.{clamped_to_one, clamped_origin, clamped_side, place_of_unit, with_capability}
+use Rattle.gl_state.specs.Stacks.{StacksView, current_of, matrix_at, with_current}
 
 -- the stacks with another current one, that of the matrix mode and the active unit; section 2.10.2
 abbrev pub with_change : (List Matrix → List Matrix) → Tracked → StacksView → StacksView
@@ -35,16 +35,19 @@ with_product right tracked stacks = with_change (λ matrices. product (top_of ma
 -- a call multiplies the current matrix; section 2.10.2
 abbrev pub is_product : Call → Bool
 is_product (Frustumx left right bottom top near far) = true
+is_product (MultMatrixx matrix) = true
 is_product (Orthox left right bottom top near far) = true
 is_product (Rotatex angle x y z) = true
 is_product (Scalex x y z) = true
 is_product (Translatex x y z) = true
 is_product _ = false
 
--- the stacks after a call without an error on a memory, from which no matrix is read yet; section 2.10.2
+-- the stacks after a call without an error on a memory, from which LoadMatrixx and MultMatrixx take a matrix; section 2.10.2
 unfoldable pub stacks_set_by : Tracked → StacksView → Call → List Segment → StacksView
 stacks_set_by tracked stacks (Frustumx left right bottom top near far) memory = with_product (frustum_of left right bottom top near far) tracked stacks
 stacks_set_by tracked stacks LoadIdentity memory = with_change (λ matrices. identity ∷ below_top matrices) tracked stacks
+stacks_set_by tracked stacks (LoadMatrixx matrix) memory = with_change (λ matrices. matrix_at memory matrix ∷ below_top matrices) tracked stacks
+stacks_set_by tracked stacks (MultMatrixx matrix) memory = with_product (matrix_at memory matrix) tracked stacks
 stacks_set_by tracked stacks (Orthox left right bottom top near far) memory = with_product (ortho_of left right bottom top near far) tracked stacks
 stacks_set_by tracked stacks PopMatrix memory = with_change (λ matrices. below_top matrices) tracked stacks
 stacks_set_by tracked stacks PushMatrix memory = with_change (λ matrices. top_of matrices ∷ matrices) tracked stacks
@@ -53,10 +56,61 @@ stacks_set_by tracked stacks (Scalex x y z) memory = with_product (scaling_of x 
 stacks_set_by tracked stacks (Translatex x y z) memory = with_product (translation_of x y z) tracked stacks
 stacks_set_by tracked stacks _ memory = stacks
 
--- the settings after a call without an error on a memory, from which no colour is read yet, by tracked state, whose active unit tells which unit's settings a call sets once there are such calls; sections 2.10.1 and 4.2.3
+-- a call sets a value that vertices take where no array has one; section 2.7
+abbrev pub is_current : Call → Bool
+is_current (Color4x red green blue alpha) = true
+is_current (MultiTexCoord4x target s t r q) = true
+is_current (Normal3x nx ny nz) = true
+is_current _ = false
+
+-- a call sets where primitives lie in the window, which faces they have, or how they are shaded; sections 2.10.1, 2.12.1, 2.12.7 and 3.5.1
+abbrev pub is_of_primitives : Call → Bool
+is_of_primitives (CullFace mode) = true
+is_of_primitives (DepthRangex near far) = true
+is_of_primitives (FrontFace mode) = true
+is_of_primitives (ShadeModel mode) = true
+is_of_primitives (Viewport x y width height) = true
+is_of_primitives _ = false
+
+-- a call sets a test of fragments, or how they are blended; sections 4.1.2 to 4.1.7
+abbrev pub is_of_tests : Call → Bool
+is_of_tests (AlphaFuncx func reference) = true
+is_of_tests (BlendFunc sfactor dfactor) = true
+is_of_tests (DepthFunc func) = true
+is_of_tests (Scissor x y width height) = true
+is_of_tests _ = false
+
+-- a call sets what the frame is cleared to, or which parts of it are written; sections 4.2.2 and 4.2.3
+abbrev pub is_of_frame : Call → Bool
+is_of_frame (ClearColorx red green blue alpha) = true
+is_of_frame (ClearDepthx depth) = true
+is_of_frame (ColorMask red green blue alpha) = true
+is_of_frame (DepthMask flag) = true
+is_of_frame _ = false
+
+-- the settings after a call without an error on a memory, from which none is read, by tracked state, whose active unit tells of which unit TEXTURE_2D is; sections 2.7, 2.10.1, 2.12.1, 2.12.7, 3.5.1, 4.1.2 to 4.1.7, 4.2.2 and 4.2.3
 unfoldable pub settings_set_by : Tracked → Settings → Call → List Segment → Settings
+settings_set_by tracked settings (AlphaFuncx func reference) memory = record settings { alpha_func = func; alpha_reference = clamped_to_one reference }
+settings_set_by tracked settings (BlendFunc sfactor dfactor) memory = record settings { source_factor = sfactor; dest_factor = dfactor }
 settings_set_by tracked settings (ClearColorx red green blue alpha) memory =
     record settings { clear_colour = clamped_to_one red ∷ clamped_to_one green ∷ clamped_to_one blue ∷ clamped_to_one alpha ∷ [] }
+settings_set_by tracked settings (ClearDepthx depth) memory = record settings { clear_depth = clamped_to_one depth }
+settings_set_by tracked settings (Color4x red green blue alpha) memory = record settings { colour = red ∷ green ∷ blue ∷ alpha ∷ [] }
+settings_set_by tracked settings (ColorMask red green blue alpha) memory = record settings { colour_mask = red ∷ green ∷ blue ∷ alpha ∷ [] }
+settings_set_by tracked settings (CullFace mode) memory = record settings { cull_face = mode }
+settings_set_by tracked settings (DepthFunc func) memory = record settings { depth_func = func }
+settings_set_by tracked settings (DepthMask flag) memory = record settings { depth_mask = flag }
+settings_set_by tracked settings (DepthRangex near far) memory = record settings { depth_range = clamped_to_one near ∷ clamped_to_one far ∷ [] }
+settings_set_by tracked settings (Disable cap) memory =
+    record settings { capabilities = with_capability settings.capabilities (place_of_unit tracked.active) cap false }
+settings_set_by tracked settings (Enable cap) memory =
+    record settings { capabilities = with_capability settings.capabilities (place_of_unit tracked.active) cap true }
+settings_set_by tracked settings (FrontFace mode) memory = record settings { front_face = mode }
+settings_set_by tracked settings (MultiTexCoord4x target s t r q) memory =
+    record settings { coordinates = slice_set settings.coordinates (place_of_unit target) (s ∷ t ∷ r ∷ q ∷ []) }
+settings_set_by tracked settings (Normal3x nx ny nz) memory = record settings { normal = nx ∷ ny ∷ nz ∷ [] }
+settings_set_by tracked settings (Scissor x y width height) memory = record settings { scissor = x ∷ y ∷ width ∷ height ∷ [] }
+settings_set_by tracked settings (ShadeModel mode) memory = record settings { shade_model = mode }
 settings_set_by tracked settings (Viewport x y width height) memory =
     record settings { viewport = clamped_origin x ∷ clamped_origin y ∷ clamped_side width ∷ clamped_side height ∷ [] }
 settings_set_by tracked settings _ memory = settings
@@ -107,10 +161,11 @@ list_length (GetFixedv pname params) = fixed_length pname
 list_length (GetIntegerv pname params) = integers_length pname
 list_length _ = 0
 
--- what a call needs beyond the private state, with this error or none, where it asks for no number of tracked state: Clear changes the pixels of the frame, ReadPixels reads them, all others need nothing, of which the queries are answered; own
+-- what a call needs beyond the private state, with this error or none, where it asks for no number of tracked state: Clear and DrawArrays change the pixels of the frame, ReadPixels reads them, all others need nothing, of which the queries are answered; own
 abbrev pub plan_by : Option GlError → Call → Plan
 plan_by (Some error) call = Fault error
 plan_by None (Clear mask) = Draw
+plan_by None (DrawArrays mode first count) = Draw
 plan_by None GetError = Query
 plan_by None (GetFixedv pname params) = Query
 plan_by None (GetIntegerv pname params) = Query

@@ -10,6 +10,7 @@ ghost use Rattle.gl_state.specs.Gets.{active_unit, alone, capability_rows, fixed
 ghost use Rattle.gl_state.specs.Step.{list_length, numbers_replied, private_reply};
 
 use crate::private::Private;
+use crate::settings::place_of_unit;
 use driver_trait::Reply;
 use gl_memory::Numbers;
 use gl_words::Call;
@@ -39,11 +40,7 @@ impl Private {
         ensures unit { result ≡ active_unit self.now }
         ensures few { result < 2 }
     {
-        if self.tracked().active == 0x84C0 {
-            0
-        } else {
-            1
-        }
+        place_of_unit(self.tracked().active)
     }
 
     /// What GetIntegerv gives for a name of a setting, a limit or a rectangle, as a reply: the side of textures in texels

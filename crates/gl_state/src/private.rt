@@ -6,11 +6,13 @@ ghost use Rattle.driver_trait.specs.Reply.{replied};
 ghost use Rattle.gl_tracked.specs.Tracked.{IsSound};
 ghost use Rattle.gl_state.specs.Event.{EventReplied, event_replied};
 ghost use Rattle.gl_state.specs.Gets.{fixed_length, integers_length};
-ghost use Rattle.gl_state.specs.Private.{AreSides, first_private};
-ghost use Rattle.gl_state.specs.Settings.{AreClamped, AreWithinOne};
-ghost use Rattle.gl_state.specs.Stacks.{current_of};
+ghost use Rattle.gl_state.specs.Private.{first_private};
+ghost use Rattle.gl_state.specs.Settings.{fragment_state_of, AreAccepted, AreClamped};
+ghost use Rattle.gl_state.specs.Stacks.{current_of, texture_of};
 ghost use Rattle.gl_state.specs.Step.{code_of_error, error_set_by, fault_in, list_length, plan_by, plan_of, private_after, private_reply, recorded, room_of};
 ghost use Rattle.fixed_transform.specs.Stack.{top_of};
+ghost use Rattle.fragment_ops.specs.Frame.{AreSides};
+ghost use Rattle.fragment_ops.specs.State.{AreWithinOne, IsFragmentState};
 
 use crate::event::EventReply;
 use crate::plan::Plan;
@@ -18,6 +20,7 @@ use crate::settings::Settings;
 use crate::stacks::Stacks;
 use driver_trait::Reply;
 use fixed_transform::Matrix;
+use fragment_ops::FragmentState;
 use gl_memory::{Memory, Numbers};
 use gl_tracked::{Finding, Tracked};
 use gl_words::{Call, GlError};
@@ -112,6 +115,7 @@ impl Private {
     pub fn settings(&self) -> &Settings
         ensures settings { result.now ≡ self.now.settings }
         ensures clamped { AreClamped result.now }
+        ensures accepted { AreAccepted result.now }
     {
         &self.settings
     }
@@ -122,6 +126,53 @@ impl Private {
         ensures within { AreWithinOne result }
     {
         self.settings.clear_colour
+    }
+
+    /// What fragment operations take of the settings (sections 4.1.2 to 4.2.3).
+    #[tactic(auto, unfolding(crate::specs::Settings::fragment_state_of))]
+    pub fn fragment_state(&self) -> FragmentState
+        ensures state { result ≡ fragment_state_of self.now.settings }
+        ensures whole { IsFragmentState result }
+    {
+        let settings = &self.settings;
+        FragmentState {
+            scissor_on: settings.capabilities.scissor_test,
+            scissor: settings.scissor,
+            alpha_on: settings.capabilities.alpha_test,
+            alpha_func: settings.alpha_func,
+            alpha_reference: settings.alpha_reference,
+            depth_on: settings.capabilities.depth_test,
+            depth_func: settings.depth_func,
+            depth_mask: settings.depth_mask,
+            blend_on: settings.capabilities.blend,
+            source_factor: settings.source_factor,
+            dest_factor: settings.dest_factor,
+            colour_mask: settings.colour_mask,
+            clear_colour: settings.clear_colour,
+            clear_depth: settings.clear_depth,
+        }
+    }
+
+    /// The matrix of the model view, the top one of its stack (section 2.10.2).
+    pub fn model_view(&self) -> &Matrix
+        ensures { result.now ≡ top_of self.now.stacks.model_view }
+    {
+        self.stacks.top(0x1700, 0x84C0)
+    }
+
+    /// The matrix of the projection, the top one of its stack (section 2.10.2).
+    pub fn projection(&self) -> &Matrix
+        ensures { result.now ≡ top_of self.now.stacks.projection }
+    {
+        self.stacks.top(0x1701, 0x84C0)
+    }
+
+    /// The matrix of the textures of the unit at place 0 or 1, the top one of its stack (section 2.10.2).
+    pub fn texture_matrix(&self, unit: usize) -> &Matrix
+        requires { unit < 2 }
+        ensures { result.now ≡ top_of (texture_of self.now.stacks unit) }
+    {
+        self.stacks.texture(unit)
     }
 
     /// The matrix that would be the current one in a mode, the active unit being as it is (section 2.10.2).
@@ -224,7 +275,7 @@ impl Private {
     {
         self.settings.set(&self.tracked, call);
         // Before `note`: which stack is current, and that it has room, is what tracked state says before the call.
-        self.stacks.set(&self.tracked, call);
+        self.stacks.set(&self.tracked, call, memory);
         self.tracked.note(call, memory, None);
     }
 }
@@ -279,7 +330,7 @@ fn plan_without_fault(call: &Call) -> Plan
     ensures { result ≡ plan_by None call.now }
 {
     match call {
-        Call::Clear { .. } => Plan::Draw,
+        Call::Clear { .. } | Call::DrawArrays { .. } => Plan::Draw,
         Call::ReadPixels { .. } => Plan::Read,
         Call::GetError
         | Call::GetFixedv { .. }

@@ -1,10 +1,12 @@
 //! What calls set besides stacks, tracked state and errors: current values, capabilities, masks and the rest.
 
-ghost use Rattle.std.specs.Prelude.{◌≡◌, ◌≤ℤ◌, pos, neg_ℤ, List, [], ◌∷◌};
+ghost use Rattle.std.specs.Prelude.{◌≡◌, ◌<◌, ◌≤ℤ◌, pos, neg_ℤ, true, List, [], ◌∷◌};
 ghost use Rattle.gl_memory.specs.Segment.{Segment};
-ghost use Rattle.gl_state.specs.Private.{AreSides};
-ghost use Rattle.gl_state.specs.Settings.{clamped_origin, clamped_side, clamped_to_one, clamped_within, first_capabilities, first_settings, one, AreClamped, AreWithinOne, IsViewport};
-ghost use Rattle.gl_state.specs.Step.{settings_set_by};
+ghost use Rattle.fragment_ops.specs.Frame.{AreSides};
+ghost use Rattle.fragment_ops.specs.State.{number_at, AreWithinOne, IsWithinOne};
+ghost use Rattle.gl_tracked.specs.declared.tracked.Tracked.{Tracked};
+ghost use Rattle.gl_state.specs.Settings.{clamped_origin, clamped_side, clamped_to_one, clamped_within, first_capabilities, first_settings, place_of_unit, with_capability, AreAccepted, AreClamped, IsViewport};
+ghost use Rattle.gl_state.specs.Step.{is_current, is_of_frame, is_of_primitives, is_of_tests, settings_set_by};
 
 use gl_tracked::Tracked;
 use gl_words::Call;
@@ -35,6 +37,23 @@ impl Capabilities {
             dither: true,
             depth_test: false,
             scissor_test: false,
+        }
+    }
+
+    /// Enables or disables a capability, TEXTURE_2D of the unit at a place (chapters 2 to 4).
+    #[tactic(auto, unfolding(crate::specs::Settings::with_capability))]
+    fn set(&mut self, place: usize, cap: u32, is_on: bool)
+        requires { place < 2 }
+        ensures { self.new ≡ with_capability self.old place cap is_on }
+    {
+        match cap {
+            0x0B44 => self.cull_face = is_on,
+            0x0B71 => self.depth_test = is_on,
+            0x0BC0 => self.alpha_test = is_on,
+            0x0BD0 => self.dither = is_on,
+            0x0BE2 => self.blend = is_on,
+            0x0C11 => self.scissor_test = is_on,
+            _ => self.texture_2d[place] = is_on,
         }
     }
 }
@@ -90,6 +109,7 @@ impl Settings {
         requires sides { AreSides width height }
         ensures first { result ≡ first_settings width height }
         ensures clamped { AreClamped result }
+        ensures accepted { AreAccepted result }
     {
         Settings {
             colour: [65536, 65536, 65536, 65536],
@@ -119,9 +139,121 @@ impl Settings {
 
     /// Sets what a call without an error sets.
     #[tactic(auto, unfolding(crate::specs::Step::settings_set_by))]
-    pub(crate) fn set(&mut self, _tracked: &Tracked, call: &Call)
+    pub(crate) fn set(&mut self, tracked: &Tracked, call: &Call)
         ensures set { (memory : List Segment) → self.new
-            ≡ settings_set_by _tracked.now self.old call.now memory }
+            ≡ settings_set_by tracked.now self.old call.now memory }
+        ensures clamped { AreClamped self.old → AreClamped self.new }
+    {
+        match call {
+            Call::Color4x { .. } | Call::MultiTexCoord4x { .. } | Call::Normal3x { .. } => {
+                self.set_current(call);
+            }
+            Call::CullFace { .. }
+            | Call::DepthRangex { .. }
+            | Call::FrontFace { .. }
+            | Call::ShadeModel { .. }
+            | Call::Viewport { .. } => self.set_primitives(call),
+            Call::AlphaFuncx { .. }
+            | Call::BlendFunc { .. }
+            | Call::DepthFunc { .. }
+            | Call::Scissor { .. } => self.set_tests(call),
+            Call::ClearColorx { .. }
+            | Call::ClearDepthx { .. }
+            | Call::ColorMask { .. }
+            | Call::DepthMask { .. } => self.set_frame(call),
+            Call::Disable { cap } => {
+                self.capabilities
+                    .set(place_of_unit(tracked.active), *cap, false);
+            }
+            Call::Enable { cap } => {
+                self.capabilities
+                    .set(place_of_unit(tracked.active), *cap, true);
+            }
+            _ => {}
+        }
+    }
+
+    /// Sets a value that vertices take where no array has one (section 2.7).
+    #[tactic(auto, unfolding(crate::specs::Step::settings_set_by))]
+    fn set_current(&mut self, call: &Call)
+        requires { is_current call.now ≡ true }
+        ensures set { (tracked : Tracked) (memory : List Segment) → self.new
+            ≡ settings_set_by tracked self.old call.now memory }
+        ensures clamped { AreClamped self.old → AreClamped self.new }
+    {
+        match call {
+            Call::Color4x {
+                red,
+                green,
+                blue,
+                alpha,
+            } => self.colour = [*red, *green, *blue, *alpha],
+            Call::MultiTexCoord4x { target, s, t, r, q } => {
+                self.coordinates[place_of_unit(*target)] = [*s, *t, *r, *q];
+            }
+            Call::Normal3x { nx, ny, nz } => self.normal = [*nx, *ny, *nz],
+            _ => {}
+        }
+    }
+
+    /// Sets where primitives lie in the window, which faces they have, and how they are shaded (sections 2.10.1, 2.12.1,
+    /// 2.12.7 and 3.5.1).
+    #[tactic(auto, unfolding(crate::specs::Step::settings_set_by))]
+    fn set_primitives(&mut self, call: &Call)
+        requires { is_of_primitives call.now ≡ true }
+        ensures set { (tracked : Tracked) (memory : List Segment) → self.new
+            ≡ settings_set_by tracked self.old call.now memory }
+        ensures clamped { AreClamped self.old → AreClamped self.new }
+    {
+        match call {
+            Call::CullFace { mode } => self.cull_face = *mode,
+            Call::DepthRangex { near, far } => self.depth_range = clamped_range(*near, *far),
+            Call::FrontFace { mode } => self.front_face = *mode,
+            Call::ShadeModel { mode } => self.shade_model = *mode,
+            Call::Viewport {
+                x,
+                y,
+                width,
+                height,
+            } => self.viewport = clamped_viewport(*x, *y, *width, *height),
+            _ => {}
+        }
+    }
+
+    /// Sets a test of fragments, or how they are blended (sections 4.1.2 to 4.1.7).
+    #[tactic(auto, unfolding(crate::specs::Step::settings_set_by))]
+    fn set_tests(&mut self, call: &Call)
+        requires { is_of_tests call.now ≡ true }
+        ensures set { (tracked : Tracked) (memory : List Segment) → self.new
+            ≡ settings_set_by tracked self.old call.now memory }
+        ensures clamped { AreClamped self.old → AreClamped self.new }
+    {
+        match call {
+            Call::AlphaFuncx { func, reference } => {
+                self.alpha_func = *func;
+                self.alpha_reference = clamped_to_one(*reference);
+            }
+            Call::BlendFunc { sfactor, dfactor } => {
+                self.source_factor = *sfactor;
+                self.dest_factor = *dfactor;
+            }
+            Call::DepthFunc { func } => self.depth_func = *func,
+            Call::Scissor {
+                x,
+                y,
+                width,
+                height,
+            } => self.scissor = [*x, *y, *width, *height],
+            _ => {}
+        }
+    }
+
+    /// Sets what the frame is cleared to, or which parts of it are written (sections 4.2.2 and 4.2.3).
+    #[tactic(auto, unfolding(crate::specs::Step::settings_set_by))]
+    fn set_frame(&mut self, call: &Call)
+        requires { is_of_frame call.now ≡ true }
+        ensures set { (tracked : Tracked) (memory : List Segment) → self.new
+            ≡ settings_set_by tracked self.old call.now memory }
         ensures clamped { AreClamped self.old → AreClamped self.new }
     {
         match call {
@@ -130,20 +262,26 @@ impl Settings {
                 green,
                 blue,
                 alpha,
-            } => {
-                self.clear_colour = clamped_colour(*red, *green, *blue, *alpha);
-            }
-            Call::Viewport {
-                x,
-                y,
-                width,
-                height,
-            } => {
-                self.viewport = clamped_viewport(*x, *y, *width, *height);
-            }
+            } => self.clear_colour = clamped_colour(*red, *green, *blue, *alpha),
+            Call::ClearDepthx { depth } => self.clear_depth = clamped_to_one(*depth),
+            Call::ColorMask {
+                red,
+                green,
+                blue,
+                alpha,
+            } => self.colour_mask = [*red, *green, *blue, *alpha],
+            Call::DepthMask { flag } => self.depth_mask = *flag,
             _ => {}
         }
     }
+}
+
+/// The place of a unit: 0 for TEXTURE0, else 1 (sections 2.7 and 3.7.12).
+pub(crate) fn place_of_unit(unit: u32) -> usize
+    ensures place { result ≡ place_of_unit unit }
+    ensures few { result < 2 }
+{
+    if unit == 0x84C0 { 0 } else { 1 }
 }
 
 /// A number clamped to lie between two others.
@@ -159,11 +297,10 @@ fn clamped_within(low: i32, high: i32, number: i32) -> i32
     }
 }
 
-/// A 16.16 fixed number clamped to 0 to 1 (section 4.2.3).
+/// A 16.16 fixed number clamped to 0 to 1 (sections 2.10.1, 4.1.4 and 4.2.3).
 fn clamped_to_one(number: i32) -> i32
     ensures clamped { result ≡ clamped_to_one number }
-    ensures low { pos 0 ≤ℤ result }
-    ensures high { result ≤ℤ one }
+    ensures within { IsWithinOne result }
 {
     clamped_within(0, 65536, number)
 }
@@ -198,6 +335,15 @@ fn clamped_colour(red: i32, green: i32, blue: i32, alpha: i32) -> [i32; 4]
         clamped_to_one(blue),
         clamped_to_one(alpha),
     ]
+}
+
+/// The depths of the near and the far plane, clamped to 0 to 1 (section 2.10.1).
+fn clamped_range(near: i32, far: i32) -> [i32; 2]
+    ensures range { result ≡ clamped_to_one near ∷ clamped_to_one far ∷ [] }
+    ensures near { IsWithinOne (number_at result 0) }
+    ensures far { IsWithinOne (number_at result 1) }
+{
+    [clamped_to_one(near), clamped_to_one(far)]
 }
 
 /// A viewport with its place and its sides clamped (section 2.10.1).

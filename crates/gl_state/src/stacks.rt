@@ -1,14 +1,14 @@
 //! The stacks of matrices of a context.
 
-ghost use Rattle.std.specs.Prelude.{◌≡◌, ◌≢◌, ◌∷◌, length, List, None, true};
-ghost use Rattle.gl_memory.specs.Segment.{Segment};
+ghost use Rattle.std.specs.Prelude.{◌≡◌, ◌≢◌, ◌<◌, [], ◌∷◌, length, None, true};
 ghost use Rattle.fixed_transform.specs.Matrix.{scaling_of, translation_of};
 ghost use Rattle.fixed_transform.specs.Stack.{top_of, below_top};
 ghost use Rattle.gl_tracked.specs.Fault.{fault_of};
-ghost use Rattle.gl_state.specs.Stacks.{first_stacks, current_of, with_current, most_of, depths_of};
-ghost use Rattle.gl_state.specs.Step.{is_product, stacks_set_by, with_product};
+ghost use Rattle.gl_state.specs.Stacks.{first_stacks, current_of, depths_of, entry_at, matrix_at, most_of, texture_of, with_current};
+ghost use Rattle.gl_state.specs.Step.{is_product, stacks_set_by, with_change, with_product};
 
 use fixed_transform::{Matrix, Stack, frustum, ortho, rotation};
+use gl_memory::{Memory, read_i32};
 use gl_tracked::Tracked;
 use gl_words::Call;
 use std::marker::Model;
@@ -57,6 +57,17 @@ impl Stacks {
         } else if mode == 0x1701 {
             self.projection.top()
         } else if active == 0x84C0 {
+            self.texture_zero.top()
+        } else {
+            self.texture_one.top()
+        }
+    }
+
+    /// The matrix of the textures of the unit at place 0 or 1.
+    pub(crate) fn texture(&self, unit: usize) -> &Matrix
+        ensures { result.now ≡ top_of (texture_of self.now unit) }
+    {
+        if unit == 0 {
             self.texture_zero.top()
         } else {
             self.texture_one.top()
@@ -142,23 +153,42 @@ impl Stacks {
         self.set_top(tracked.matrix_mode, tracked.active, translated);
     }
 
-    /// Sets what a call without an error sets, where tracked state knows how deep the stacks are.
+    /// Puts a matrix from a place of memory on in place of the current one.
+    fn load<M: Memory>(&mut self, tracked: &Tracked, place: u32, memory: &M)
+        ensures { self.new ≡ with_change (λ matrices. matrix_at (M.segments memory.now) place ∷
+            below_top matrices) tracked.now self.old }
+    {
+        let matrix = matrix_at(memory, place);
+        self.set_top(tracked.matrix_mode, tracked.active, matrix);
+    }
+
+    /// Multiplies the current matrix by the one from a place of memory on.
+    fn multiply_at<M: Memory>(&mut self, tracked: &Tracked, place: u32, memory: &M)
+        ensures { self.new ≡ with_product (matrix_at (M.segments memory.now) place)
+            tracked.now self.old }
+    {
+        let matrix = matrix_at(memory, place);
+        self.multiply(tracked, &matrix);
+    }
+
+    /// Sets what a call without an error sets on a memory, where tracked state knows how deep the stacks are.
     #[tactic(auto, unfolding(crate::specs::Step::stacks_set_by))]
-    pub(crate) fn set(&mut self, tracked: &Tracked, call: &Call)
+    pub(crate) fn set<M: Memory>(&mut self, tracked: &Tracked, call: &Call, memory: &M)
         requires no_fault { fault_of tracked.now call.now ≡ None }
         requires depths { tracked.now.depths ≡ depths_of self.old }
-        ensures { (memory : List Segment) → self.new
-            ≡ stacks_set_by tracked.now self.old call.now memory }
+        ensures { self.new ≡ stacks_set_by tracked.now self.old call.now (M.segments memory.now) }
     {
         match call {
             Call::Frustumx { .. }
+            | Call::MultMatrixx { .. }
             | Call::Orthox { .. }
             | Call::Rotatex { .. }
             | Call::Scalex { .. }
-            | Call::Translatex { .. } => self.multiply_by(tracked, call),
+            | Call::Translatex { .. } => self.multiply_by(tracked, call, memory),
             Call::LoadIdentity => {
                 self.set_top(tracked.matrix_mode, tracked.active, Matrix::identity());
             }
+            Call::LoadMatrixx { matrix } => self.load(tracked, *matrix, memory),
             Call::PopMatrix => self.pop(tracked.matrix_mode, tracked.active),
             Call::PushMatrix => self.push(tracked.matrix_mode, tracked.active),
             _ => {}
@@ -168,11 +198,10 @@ impl Stacks {
     /// Multiplies the current matrix by that of a call without an error. It stands by itself, since a function sets up the
     /// matrices of all its arms, and other calls need none.
     #[tactic(auto, unfolding(crate::specs::Step::stacks_set_by))]
-    fn multiply_by(&mut self, tracked: &Tracked, call: &Call)
+    fn multiply_by<M: Memory>(&mut self, tracked: &Tracked, call: &Call, memory: &M)
         requires no_fault { fault_of tracked.now call.now ≡ None }
         requires product { is_product call.now ≡ true }
-        ensures { (memory : List Segment) → self.new
-            ≡ stacks_set_by tracked.now self.old call.now memory }
+        ensures { self.new ≡ stacks_set_by tracked.now self.old call.now (M.segments memory.now) }
     {
         match call {
             Call::Frustumx {
@@ -185,6 +214,7 @@ impl Stacks {
             } => {
                 self.multiply(tracked, &frustum(*left, *right, *bottom, *top, *near, *far));
             }
+            Call::MultMatrixx { matrix } => self.multiply_at(tracked, *matrix, memory),
             Call::Orthox {
                 left,
                 right,
@@ -203,4 +233,43 @@ impl Stacks {
             _ => {}
         }
     }
+}
+
+/// The number in a row and a column of the matrix from a place of memory on (section 2.10.2).
+fn entry_at<M: Memory>(memory: &M, place: u32, row: u64, column: u64) -> i32
+    requires row { row < 4 }
+    requires column { column < 4 }
+    ensures { result ≡ entry_at (M.segments memory.now) place row column }
+{
+    read_i32(memory, u64::from(place) + 4 * (4 * column + row))
+}
+
+/// A column of the matrix from a place of memory on.
+fn column_at<M: Memory>(memory: &M, place: u32, column: u64) -> [i32; 4]
+    requires { column < 4 }
+    ensures { let m = M.segments memory.now in
+        result ≡ entry_at m place 0 column ∷ entry_at m place 1 column ∷
+        entry_at m place 2 column ∷ entry_at m place 3 column ∷ [] }
+{
+    [
+        entry_at(memory, place, 0, column),
+        entry_at(memory, place, 1, column),
+        entry_at(memory, place, 2, column),
+        entry_at(memory, place, 3, column),
+    ]
+}
+
+/// The matrix from a place of memory on, by columns (section 2.10.2).
+#[tactic(auto, unfolding(crate::specs::Stacks::matrix_at))]
+fn matrix_at<M: Memory>(memory: &M, place: u32) -> Matrix
+    ensures { result ≡ matrix_at (M.segments memory.now) place }
+{
+    let one = column_at(memory, place, 0);
+    let two = column_at(memory, place, 1);
+    let three = column_at(memory, place, 2);
+    let four = column_at(memory, place, 3);
+    Matrix::from_values([
+        one[0], one[1], one[2], one[3], two[0], two[1], two[2], two[3], three[0], three[1],
+        three[2], three[3], four[0], four[1], four[2], four[3],
+    ])
 }

@@ -5,6 +5,7 @@ use Rattle.gl_tracked.proofs.Stepping.{tracked_after-no_fault}
 use Rattle.gl_state.specs.contracts.private.Private.{the_view}
 use Rattle.gl_state.specs.Private.{PrivateView}
 use Rattle.gl_state.specs.Stacks.{depths_of}
+use Rattle.gl_state.proofs.Accepting.{set-accepted}
 use Rattle.gl_state.proofs.Depths.{depths-set_by}
 use Rattle.gl_state.proofs.Stepping.{private_after-parts}
 use Rattle.gl_state.proofs.private.Private.set.Goals as goal
@@ -21,8 +22,9 @@ invariant_of-self g c =
       depths =
           ap (λ (tracked : Tracked). tracked.depths) (c.note.ensures.step ∙ tracked_after-no_fault c.self.inside.tracked c.args.call.now memory no_fault)
           ∙ depths-set_by c.self.inside.tracked c.self.inside.stacks c.self.invariant.sound c.self.invariant.depths c.args.call.now memory
-          ∙ ap depths_of (sym (c.set-2.ensures memory));
+          ∙ ap depths_of (sym c.set-2.ensures);
       clamped = c.set.ensures.clamped c.self.invariant.clamped;
+      accepted = set-accepted c.self.inside.tracked c.self.inside.settings c.set.new.self c.args.call.now no_fault c.set.ensures.set c.self.invariant.accepted;
     }
 
 pub returns : goal.returns
@@ -30,4 +32,4 @@ returns g c event =
     let memory = g.M.Memory.segments c.args.memory.now in
     let no_fault = ap (λ (p : PrivateView). fault_of p.tracked c.args.call.now) c.self.view_is ∙ c.requires.no_fault in
     rw (← c.self.view_is) (private_after-parts (the_view c.self.inside) c.args.call.now memory event c.requires.no_query
-    (c.note.ensures.step ∙ tracked_after-no_fault c.self.inside.tracked c.args.call.now memory no_fault) (c.set-2.ensures memory) (c.set.ensures.set memory))
+    (c.note.ensures.step ∙ tracked_after-no_fault c.self.inside.tracked c.args.call.now memory no_fault) c.set-2.ensures (c.set.ensures.set memory))

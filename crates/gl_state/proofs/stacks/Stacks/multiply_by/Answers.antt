@@ -8,7 +8,7 @@ passed_apart : (a b : ℤ) → SFits w32 a → SFits w32 b → a ≢ b → to_z 
 passed_apart a b fits_a fits_b apart same = apart (omega (arith, ints))
 
 pub frustum-requires : goal.frustum-requires
-frustum-requires c =
+frustum-requires g c =
     let call = c.in-Frustumx in
     let left : SFits w32 call.left = search rules in
     let right : SFits w32 call.right = search rules in
@@ -26,7 +26,7 @@ frustum-requires c =
     }
 
 pub ortho-requires : goal.ortho-requires
-ortho-requires c =
+ortho-requires g c =
     let call = c.in-Orthox in
     let left : SFits w32 call.left = search rules in
     let right : SFits w32 call.right = search rules in
