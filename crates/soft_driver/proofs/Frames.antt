@@ -1,10 +1,10 @@
 -- Which calls leave the frame, and that none changes its sides.
 use Rattle.std.proofs.Common.{◌≡◌, ◌≢◌, ℕ, List, Option, Some, None, refl, sym, ap, ◌∙◌}
-use Rattle.std.proofs.lemmas.Bool.{cond_both}
 use Rattle.gl_words.specs.declared.call.Call.{Call}
-use Rattle.gl_words.specs.declared.call.Call.TheVariants.{Clear}
+use Rattle.gl_words.specs.declared.call.Call.TheVariants.{Clear, DrawArrays}
 use Rattle.gl_words.specs.declared.error.GlError.{GlError}
 use Rattle.gl_memory.specs.Segment.{Segment}
+use Rattle.fragment_ops.specs.Frame.{FrameView, first_frame, frame_changed}
 use Rattle.gl_tracked.specs.Fault.{fault_of}
 use Rattle.gl_tracked.specs.Step.{number_asked}
 use Rattle.gl_state.specs.declared.plan.Plan.{Plan}
@@ -13,14 +13,14 @@ use Rattle.gl_state.specs.Event.{EventReplied}
 use Rattle.gl_state.specs.Private.{PrivateView, first_private}
 use Rattle.gl_state.specs.Step.{fault_in, plan_found, plan_of, private_after}
 use Rattle.gl_state.proofs.Stepping.{fault_of-planned}
-use Rattle.soft_driver.specs.Frame.{FrameView, filled, first_frame}
-use Rattle.soft_driver.specs.Own.{AreTied, clears_colour, frame_after}
+use Rattle.soft_driver.specs.Own.{AreTied, frame_after}
 
 module _ (state : PrivateView) (frame : FrameView) (memory : List Segment) (event : EventReplied) where
   leaves_by : (fault : Option GlError) (call : Call) → plan_found (number_asked state.tracked call) fault call ≢ Draw → frame ≡ frame_after fault state frame call memory event
   unfolding number_asked
   leaves_by (Some error) call other = refl
   leaves_by None (Clear mask) other = absurd (other refl)
+  leaves_by None (DrawArrays mode first count) other = absurd (other refl)
   leaves_by None _ other = refl
 
   -- a call that isn't planned as one that draws leaves the pixels
@@ -30,20 +30,18 @@ module _ (state : PrivateView) (frame : FrameView) (memory : List Segment) (even
       leaves_by (fault_of state.tracked call) call (λ is. other (planned ∙ is))
       ∙ ap (λ (fault : Option GlError). frame_after fault state frame call memory event) (fault_of-planned state call plan planned)
 
-  filled-same : (mask : ℕ) (side : FrameView → ℕ) → side (filled frame state.settings.clear_colour) ≡ side frame
-      → side (frame_after None state frame (Clear mask) memory event) ≡ side frame
-  filled-same mask side same = cond_both (clears_colour mask) _ _ (λ (f : FrameView). side f ≡ side frame) (λ _. same) (λ _. refl)
-
   frame_after-width : (fault : Option GlError) (call : Call) → (frame_after fault state frame call memory event).width ≡ frame.width
-  unfolding filled
+  unfolding frame_changed
   frame_after-width (Some error) call = refl
-  frame_after-width None (Clear mask) = filled-same mask (λ (f : FrameView). f.width) refl
+  frame_after-width None (Clear mask) = refl
+  frame_after-width None (DrawArrays mode first count) = refl
   frame_after-width None _ = refl
 
   frame_after-height : (fault : Option GlError) (call : Call) → (frame_after fault state frame call memory event).height ≡ frame.height
-  unfolding filled
+  unfolding frame_changed
   frame_after-height (Some error) call = refl
-  frame_after-height None (Clear mask) = filled-same mask (λ (f : FrameView). f.height) refl
+  frame_after-height None (Clear mask) = refl
+  frame_after-height None (DrawArrays mode first count) = refl
   frame_after-height None _ = refl
 
   private_after-width : (fault : Option GlError) (call : Call) → (private_after fault state call memory event).width ≡ state.width

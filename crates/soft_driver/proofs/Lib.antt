@@ -1,4 +1,5 @@
 mod Frames
 mod Replies
 mod Steps
+mod Drawings
 pub mod Readings

@@ -1,12 +1,13 @@
 -- What a rectangle that is read holds: a row pixel by pixel, and the zeros beside the frame.
-use Rattle.std.proofs.Common.{◌≡◌, ℕ, zero, suc, ◌+◌, ◌-◌, ◌*◌, ◌<◌, ◌≤◌, ℤ, pos, negsuc, ◌+ℤ◌, ◌<ℤ◌, ◌≤ℤ◌, inl, inr, List, [], ◌++◌, replicate, refl, sym, ap, ◌∙◌, subst, append_assoc, arith}
-use Rattle.std.specs.Prelude.{slice_index_or}
+use Rattle.std.proofs.Common.{◌≡◌, ℕ, zero, suc, ◌+◌, ◌-◌, ◌*◌, ◌<◌, ◌≤◌, ℤ, pos, negsuc, ◌+ℤ◌, ◌<ℤ◌, ◌≤ℤ◌, inl, inr, List, [], ◌++◌, length, get_or, replicate, refl, sym, ap, ◌∙◌, subst, append_assoc, arith}
 use Rattle.std.specs.List.{flat_map, range_with_len}
 use Rattle.std.proofs.lemmas.Bool.{cases_lt}
 use Rattle.std.proofs.lemmas.Bool.Decides.{nat_tests}
 use Rattle.std.proofs.lemmas.Int.{ints}
-use Rattle.std.proofs.lemmas.List.{append-nil, replicate-append-replicate}
-use Rattle.soft_driver.specs.Frame.{FrameView, bytes_read, no_pixel, pixel_at, row_read}
+use Rattle.std.proofs.lemmas.List.{append-nil, get_or_default, replicate-append-replicate}
+use Rattle.fragment_ops.specs.declared.cell.Cell.{Cell}
+use Rattle.fragment_ops.specs.Frame.{FrameView, IsFrame, cell_at, first_cell, no_colour, pixel_at}
+use Rattle.soft_driver.specs.Pixels.{bytes_read, row_read}
 use Rattle.soft_driver.specs.Reading.{columns_read, Divides}
 
 -- how many columns lie left of column 0, and how many left of the end of the frame, divide a row
@@ -60,39 +61,55 @@ module _ (f : ℕ → List ℕ) where
       ∙ ap (λ (rest : List ℕ). f a ++ rest) (pieces-parts (a + 1) m n next (omega arith))
       ∙ sym (append_assoc (f a) (flat_map f (range_with_len (a + 1) m)) (flat_map f (range_with_len next n)))
 
-  pieces-zeros : (a n : ℕ) → ((at : ℕ) → a ≤ at → at < a + n → f at ≡ no_pixel) → flat_map f (range_with_len a n) ≡ replicate (4 * n) 0
+  pieces-zeros : (a n : ℕ) → ((at : ℕ) → a ≤ at → at < a + n → f at ≡ no_colour) → flat_map f (range_with_len a n) ≡ replicate (4 * n) 0
   pieces-zeros a zero none = refl
   pieces-zeros a (suc n) none =
       let four : 4 + 4 * n ≡ 4 * suc n = omega arith in
       ap (λ (piece : List ℕ). piece ++ flat_map f (range_with_len (a + 1) n)) (none a (omega arith) (omega arith))
-      ∙ ap (λ (rest : List ℕ). no_pixel ++ rest) (pieces-zeros (a + 1) n (λ at from to. none at (omega arith) (omega arith)))
+      ∙ ap (λ (rest : List ℕ). no_colour ++ rest) (pieces-zeros (a + 1) n (λ at from to. none at (omega arith) (omega arith)))
       ∙ replicate-append-replicate 4 (4 * n) 0
       ∙ ap (λ (count : ℕ). replicate count 0) four
 
+-- a place of a rectangle is below the count of its places
+place_below : (row column width height : ℕ) → column < width → row < height → row * width + column < width * height
+place_below row column width height in_width in_height = grind arith
+
 module _ (frame : FrameView) where
   -- outside the frame there are zeros: left of it, right of it, below it and above it
-  pixel_at-left : (column row : ℤ) → column <ℤ pos 0 → pixel_at frame column row ≡ no_pixel
+  pixel_at-left : (column row : ℤ) → column <ℤ pos 0 → pixel_at frame column row ≡ no_colour
   pixel_at-left (negsuc n) row h = refl
   pixel_at-left (pos n) row h = absurd (omega (arith, ints))
 
-  pixel_at-right : (column row : ℤ) → pos frame.width ≤ℤ column → pixel_at frame column row ≡ no_pixel
+  pixel_at-right : (column row : ℤ) → pos frame.width ≤ℤ column → pixel_at frame column row ≡ no_colour
   pixel_at-right (negsuc n) row h = refl
   pixel_at-right (pos n) (negsuc m) h = refl
   pixel_at-right (pos n) (pos m) h = grind (arith, nat_tests, ints)
 
-  pixel_at-below : (column row : ℤ) → row <ℤ pos 0 → pixel_at frame column row ≡ no_pixel
+  pixel_at-below : (column row : ℤ) → row <ℤ pos 0 → pixel_at frame column row ≡ no_colour
   pixel_at-below (negsuc n) row h = refl
   pixel_at-below (pos n) (negsuc m) h = refl
   pixel_at-below (pos n) (pos m) h = absurd (omega (arith, ints))
 
-  pixel_at-above : (column row : ℤ) → pos frame.height ≤ℤ row → pixel_at frame column row ≡ no_pixel
+  pixel_at-above : (column row : ℤ) → pos frame.height ≤ℤ row → pixel_at frame column row ≡ no_colour
   pixel_at-above (negsuc n) row h = refl
   pixel_at-above (pos n) (negsuc m) h = refl
   pixel_at-above (pos n) (pos m) h = grind (arith, nat_tests, ints)
 
-  -- inside it there are its pixels
-  pixel_at-inside : (column row : ℕ) → column < frame.width → row < frame.height → pixel_at frame (pos column) (pos row) ≡ slice_index_or frame.pixels (row * frame.width + column) no_pixel
+  -- inside it there are the colours of its cells
+  pixel_at-inside : (column row : ℕ) → column < frame.width → row < frame.height → pixel_at frame (pos column) (pos row) ≡ (get_or frame.cells (row * frame.width + column) first_cell).colour
+  unfolding cell_at
   pixel_at-inside column row in_width in_height = grind (arith, nat_tests)
+
+  cell_inside : (column row : ℕ) → IsFrame frame → column < frame.width → row < frame.height → row * frame.width + column < length frame.cells
+  cell_inside column row whole in_width in_height = subst (λ (count : ℕ). row * frame.width + column < count) (sym whole.count) (place_below row column frame.width frame.height in_width in_height)
+
+  -- a cell that was read has the pixel of its place
+  pub pixel_at-read : (cells : List Cell) (column row : ℕ) (d : Cell) → IsFrame frame → cells ≡ frame.cells → column < frame.width → row < frame.height
+      → (get_or cells (row * frame.width + column) d).colour ≡ pixel_at frame (pos column) (pos row)
+  pixel_at-read cells column row d whole same in_width in_height =
+      ap (λ (c : List Cell). (get_or c (row * frame.width + column) d).colour) same
+      ∙ ap (λ (cell : Cell). cell.colour) (get_or_default frame.cells (row * frame.width + column) d first_cell (cell_inside column row whole in_width in_height))
+      ∙ sym (pixel_at-inside column row in_width in_height)
 
   module _ (x row : ℤ) where
     -- one more column

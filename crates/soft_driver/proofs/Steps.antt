@@ -3,12 +3,12 @@ use Rattle.std.proofs.Common.{◌≡◌, List, Option, sym, ap, ◌∙◌}
 use Rattle.gl_words.specs.declared.call.Call.{Call}
 use Rattle.gl_words.specs.declared.error.GlError.{GlError}
 use Rattle.gl_memory.specs.Segment.{Segment}
+use Rattle.fragment_ops.specs.Frame.{FrameView}
 use Rattle.gl_tracked.specs.Fault.{fault_of}
 use Rattle.driver_trait.specs.Reply.{Replied}
 use Rattle.gl_state.specs.Event.{EventReplied}
 use Rattle.gl_state.specs.Private.{PrivateView}
 use Rattle.gl_state.specs.Step.{private_after}
-use Rattle.soft_driver.specs.Frame.{FrameView}
 use Rattle.soft_driver.specs.Own.{Own, frame_after, own_reply, own_step, own_step_by}
 
 module _ (own : Own) (call : Call) (memory : List Segment) (event : EventReplied) (fault : Option GlError) (planned : fault_of own.state.tracked call ≡ fault) where

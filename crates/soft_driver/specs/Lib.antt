@@ -1,7 +1,9 @@
-pub mod Frame
+pub mod Pixels
 pub mod Reading
+pub mod Drawing
 pub mod Own
 pub mod Soft
+pub use Rattle.fragment_ops.specs.Frame
 pub use Rattle.gl_state.specs.Private
 pub use Rattle.gl_state.specs.Step
 pub use Rattle.driver_trait.specs.Driver

@@ -1,15 +1,20 @@
 -- The own state of a context, and what a call does to it. No batch, slot, class or front stands here.
-use Rattle.std.specs.Prelude.{◌≡◌, ℕ, ℤ, pos, negsuc, Bool, true, false, if◌then◌else◌, ◌==◌, nat_lt, bit_and, List, Option, Some, None}
+use Rattle.std.specs.Prelude.{◌≡◌, ℕ, ◌+◌, ℤ, pos, negsuc, Bool, true, false, ◌==◌, nat_lt, bit_and, List, Option, Some, None}
 use Rattle.gl_words.specs.declared.call.Call.{Call}
-use Rattle.gl_words.specs.declared.call.Call.TheVariants.{Clear, ReadPixels}
+use Rattle.gl_words.specs.declared.call.Call.TheVariants.{Clear, DrawArrays, ReadPixels}
 use Rattle.gl_words.specs.declared.error.GlError.{GlError}
 use Rattle.gl_memory.specs.Segment.{Segment}
+use Rattle.fragment_ops.specs.Cell.{cell_after_clear}
+use Rattle.fragment_ops.specs.Frame.{FrameView, first_frame, frame_changed}
 use Rattle.gl_tracked.specs.Fault.{fault_of}
+use Rattle.triangle_draw.specs.Draw.{cell_after_draw}
 use Rattle.driver_trait.specs.Reply.{Replied, Nothing, Bytes}
 use Rattle.gl_state.specs.Event.{EventReplied}
 use Rattle.gl_state.specs.Private.{PrivateView, first_private}
+use Rattle.gl_state.specs.Settings.{fragment_state_of}
 use Rattle.gl_state.specs.Step.{list_length, private_after, private_reply}
-use Rattle.soft_driver.specs.Frame.{FrameView, first_frame, filled, bytes_read}
+use Rattle.soft_driver.specs.Drawing.{drawing_of}
+use Rattle.soft_driver.specs.Pixels.{bytes_read}
 
 -- the own state of a context: its private state and its frame; own
 pub record Own : Type 0 where
@@ -29,21 +34,26 @@ first_own context width height = record { state = first_private context width he
 abbrev pub clears_colour : ℕ → Bool
 clears_colour mask = bit_and mask 0x4000 == 0x4000
 
--- the frame after a call with this error, or none, on a memory, its event having given this back: Clear gives each pixel the clear colour, and no other call draws; section 4.2.3. No call draws from memory, or with what an event gave back, yet
+-- a mask has the bit of the depth buffer; section 4.2.3
+abbrev pub clears_depth : ℕ → Bool
+clears_depth mask = bit_and mask 0x100 == 0x100
+
+-- a number that isn't below 0, and 0 for all others; own
+abbrev pub number_of : ℤ → ℕ
+number_of (pos number) = number
+number_of (negsuc below) = 0
+
+-- the frame after a call with this error, or none, on a memory, its event having given this back: Clear clears what its mask has a bit of, DrawArrays draws the elements from the first on, and no other call draws; sections 2.8 and 4.2.3. No call draws with what an event gave back yet
 abbrev pub frame_after : Option GlError → PrivateView → FrameView → Call → List Segment → EventReplied → FrameView
 frame_after (Some error) state frame call memory event = frame
-frame_after None state frame (Clear mask) memory event = if clears_colour mask then filled frame state.settings.clear_colour else frame
+frame_after None state frame (Clear mask) memory event = frame_changed (λ place. cell_after_clear place (fragment_state_of state.settings) (clears_colour mask) (clears_depth mask)) frame
+frame_after None state frame (DrawArrays mode first count) memory event = frame_changed (cell_after_draw (drawing_of state) memory mode (λ number. number_of first + number) (number_of count)) frame
 frame_after None state frame _ memory event = frame
-
--- a number without its sign, where it has none; no side that is read is below 0; own
-abbrev pub side_of : ℤ → ℕ
-side_of (pos side) = side
-side_of (negsuc below) = 0
 
 -- what a call replies with this error, or none, its event having given this back: ReadPixels the bytes of its pixels, all others what the private state shows; sections 2.5, 4.3.1 and 6.1
 abbrev pub own_reply : Option GlError → Own → Call → EventReplied → Replied
 own_reply (Some error) own call event = Nothing
-own_reply None own (ReadPixels x y width height format kind pixels) event = Bytes (bytes_read own.frame x y (side_of width) (side_of height))
+own_reply None own (ReadPixels x y width height format kind pixels) event = Bytes (bytes_read own.frame x y (number_of width) (number_of height))
 own_reply None own call event = private_reply None own.state call event
 
 -- what a step gives: the own state after a call, and its reply; own

@@ -1,7 +1,7 @@
--- Which columns of a row that is read lie inside the frame, and which beside it; own. What is read is told in Frame.antt.
+-- Which columns of a row that is read lie inside the frame, and which beside it; own. What is read is told in Pixels.antt.
 use Rattle.std.specs.Prelude.{ℕ, ◌<◌, ◌≤◌, ℤ, pos, ◌+ℤ◌, ◌<ℤ◌, ◌≤ℤ◌, List}
 use Rattle.std.specs.List.{flat_map, range_with_len}
-use Rattle.soft_driver.specs.Frame.{FrameView, pixel_at}
+use Rattle.fragment_ops.specs.Frame.{FrameView, pixel_at}
 
 -- the bytes of so many pixels of a row, which is counted from column x on, from one of them on; own
 unfoldable pub columns_read : FrameView → ℤ → ℤ → ℕ → ℕ → List ℕ

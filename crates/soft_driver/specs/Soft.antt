@@ -1,23 +1,31 @@
 -- The relation of the driver, and that it keeps the laws of drivers.
-use Rattle.std.proofs.Common.{◌≡◌, ℤ, false, List, [], ◌∷◌, Option, Some, None, refl, sym, ap, ◌∙◌}
-use Rattle.std.proofs.lemmas.Bool.{true≢false}
+use Rattle.std.proofs.Common.{◌≡◌, ℕ, ℤ, pos, negsuc, true, false, List, [], ◌∷◌, Option, Some, None, refl, sym, ap, ◌∙◌}
+use Rattle.std.specs.Prelude.{int_le}
+use Rattle.std.proofs.lemmas.Bool.{and_parts, true≢false}
 use Rattle.std.proofs.lemmas.Option.{none-some}
 use Rattle.gl_words.specs.Call.{is_answering}
 use Rattle.gl_words.specs.declared.call.Call.{Call}
-use Rattle.gl_words.specs.declared.call.Call.TheVariants.{Clear, ReadPixels}
+use Rattle.gl_words.specs.declared.call.Call.TheVariants.{Clear, DrawArrays, ReadPixels}
 use Rattle.gl_words.specs.declared.error.GlError.{GlError}
+use Rattle.gl_words.specs.declared.error.GlError.TheVariants.{InvalidEnum, InvalidValue}
 use Rattle.gl_memory.specs.Segment.{Segment}
+use Rattle.fragment_ops.specs.Frame.{FrameView}
 use Rattle.gl_tracked.specs.declared.tracked.Tracked.{Tracked}
 use Rattle.driver_trait.specs.Driver.{IsDriver, ReadsAlone, Follows, Answers, Replies}
-use Rattle.gl_tracked.specs.Fault.{fault_of}
+use Rattle.gl_tracked.specs.Enumerants.{modes}
+use Rattle.gl_tracked.specs.Fault.{fault_of, is_among, is_drawable}
+use Rattle.gl_tracked.specs.Ranges.{ranges_of_draw}
 use Rattle.driver_trait.specs.Reply.{Replied, Nothing, Numbers}
-use Rattle.gl_tracked.specs.Step.{number_asked}
+use Rattle.gl_tracked.specs.Reads.{AgreesOn, Ranges}
+use Rattle.gl_tracked.specs.Step.{none_on_fault, number_asked, ranges_of, reads_of}
 use Rattle.gl_tracked.proofs.Asking.{fault_of-asked}
+use Rattle.gl_tracked.proofs.Faults.{first_passed}
+use Rattle.triangle_draw.proofs.DrawReads.{TakesArrays, frame_after_draw-reads}
 use Rattle.gl_state.specs.Event.{EventReplied, NoEvent}
-use Rattle.gl_state.proofs.Stepping.{tracked_of-private_after, private_after-asked, private_after-memory, private_reply-asked, private_reply-unanswered}
+use Rattle.gl_state.proofs.Stepping.{tracked_of-private_after, private_after-asked, private_after-reads, private_reply-asked, private_reply-unanswered}
 use Rattle.gl_state.specs.Private.{PrivateView}
 use Rattle.gl_state.specs.Step.{private_reply}
-use Rattle.soft_driver.specs.Frame.{FrameView}
+use Rattle.soft_driver.specs.Drawing.{drawing_of, stage_of, texturing_of}
 use Rattle.soft_driver.specs.Own.{Own, Stepped, frame_after, own_reply, own_step, own_step_by}
 
 -- the tracked part of a context; own
@@ -28,22 +36,55 @@ own_tracked own = own.state.tracked
 abbrev pub OwnSteps : Own → Call → List Segment → Own → Replied → Type 0
 OwnSteps st call memory st2 reply = (st2 ≡ (own_step st call memory NoEvent).own) × (reply ≡ (own_step st call memory NoEvent).reply)
 
-frame_after-memory : (fault : Option GlError) (state : PrivateView) (frame : FrameView) (call : Call) (m n : List Segment) (event : EventReplied)
-    → frame_after fault state frame call m event ≡ frame_after fault state frame call n event
-frame_after-memory (Some error) state frame call m n event = refl
-frame_after-memory None state frame (Clear mask) m n event = refl
-frame_after-memory None state frame _ m n event = refl
+module _ (state : PrivateView) (frame : FrameView) (m n : List Segment) (event : EventReplied) where
+  -- the arrays that a draw takes are those that are set
+  draws_set : TakesArrays state.tracked (drawing_of state).stage
+  unfolding drawing_of stage_of texturing_of
+  draws_set = record { vertex = refl; colour = refl; first_unit = refl; second_unit = refl }
 
--- no call reads memory yet
-own_step-memory : (own : Own) (call : Call) (m n : List Segment) (event : EventReplied) → own_step own call m event ≡ own_step own call n event
+  draw_same : (mode : ℕ) (first count : ℤ) → is_drawable first count ≡ true → AgreesOn m n (Ranges (ranges_of_draw state.tracked first count))
+      → frame_after None state frame (DrawArrays mode first count) m event ≡ frame_after None state frame (DrawArrays mode first count) n event
+  unfolding is_drawable
+  draw_same mode (negsuc below) count drawable agree = absurd (true≢false (sym drawable))
+  draw_same mode (pos first) (negsuc below) drawable agree =
+      let bounds = and_parts (int_le (pos 0) (pos first)) _ drawable in
+      absurd (true≢false (sym (bounds.1)))
+  draw_same mode (pos first) (pos count) drawable agree =
+      let bounds = and_parts (int_le (pos 0) (pos first)) _ drawable in
+      let few = and_parts (int_le (pos 0) (pos count)) _ (bounds.1) in
+      frame_after_draw-reads m n state.tracked (drawing_of state) frame mode first count draws_set (few.1) agree
+
+  draw_reads : (mode : ℕ) (first count : ℤ) → fault_of state.tracked (DrawArrays mode first count) ≡ None
+      → AgreesOn m n (Ranges (ranges_of state.tracked (DrawArrays mode first count)))
+      → frame_after None state frame (DrawArrays mode first count) m event ≡ frame_after None state frame (DrawArrays mode first count) n event
+  unfolding fault_of ranges_of
+  draw_reads mode first count none agree =
+      let mode_passed = first_passed (is_among modes mode) InvalidEnum _ none in
+      let passed = first_passed (is_drawable first count) InvalidValue [] (mode_passed.1) in
+      draw_same mode first count (passed.0) agree
+
+  frame_after-reads_by : (fault : Option GlError) (call : Call) → fault_of state.tracked call ≡ fault
+      → AgreesOn m n (Ranges (none_on_fault fault (ranges_of state.tracked call))) → frame_after fault state frame call m event ≡ frame_after fault state frame call n event
+  frame_after-reads_by (Some error) call is agree = refl
+  frame_after-reads_by None (Clear mask) is agree = refl
+  frame_after-reads_by None (DrawArrays mode first count) is agree = draw_reads mode first count is agree
+  frame_after-reads_by None _ is agree = refl
+
+  -- the frame is the same on memories that agree where the call reads
+  frame_after-reads : (call : Call) → AgreesOn m n (reads_of state.tracked call m)
+      → frame_after (fault_of state.tracked call) state frame call m event ≡ frame_after (fault_of state.tracked call) state frame call n event
+  unfolding reads_of
+  frame_after-reads call agree = frame_after-reads_by (fault_of state.tracked call) call refl agree
+
+-- the step is the same on memories that agree where the call reads
+own_step-reads : (own : Own) (call : Call) (m n : List Segment) (event : EventReplied) → AgreesOn m n (reads_of own.state.tracked call m) → own_step own call m event ≡ own_step own call n event
 unfolding own_step
-own_step-memory own call m n event =
-    let fault = fault_of own.state.tracked call in
-    cc (private_after-memory fault own.state call m n event, frame_after-memory fault own.state own.frame call m n event)
+own_step-reads own call m n event agree =
+    cc (private_after-reads own.state call m n event agree, frame_after-reads own.state own.frame m n event call agree)
 
 alone : ReadsAlone own_tracked OwnSteps
 alone st call m n st2 reply in_range bytes others agree =
-    let same = own_step-memory st call m n NoEvent in (
+    let same = own_step-reads st call m n NoEvent agree in (
       λ step. (step.0 ∙ ap (λ (s : Stepped). s.own) same, step.1 ∙ ap (λ (s : Stepped). s.reply) same),
       λ step. (step.0 ∙ ap (λ (s : Stepped). s.own) (sym same), step.1 ∙ ap (λ (s : Stepped). s.reply) (sym same)),
     )
@@ -61,6 +102,7 @@ module _ (own : Own) where
       → frame_after None own.state own.frame call m event ≡ own.frame
   unfolding number_asked
   frame_after-asked (Clear mask) number m event asked = absurd (none-some number asked)
+  frame_after-asked (DrawArrays mode first count) number m event asked = absurd (none-some number asked)
   frame_after-asked _ number m event asked = refl
 
   own_reply-asked : (call : Call) (number : ℤ) (event : EventReplied) → number_asked own.state.tracked call ≡ Some number

@@ -1,9 +1,9 @@
 //! The renderer: a driver that carries calls out by itself, in memory, with integers alone.
 #![tactic(auto)]
 
-mod frame;
+mod drawing;
 mod reading;
 mod soft;
 
-pub use frame::Frame;
+pub use fragment_ops::Frame;
 pub use soft::Soft;

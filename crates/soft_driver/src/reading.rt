@@ -1,10 +1,11 @@
 //! Reading a rectangle of pixels: row by row, the part of a row that lies inside the frame, and zeros beside it.
 
 ghost use Rattle.std.specs.Prelude.{◌≡◌, ◌+◌, ◌-◌, ◌*◌, ◌<◌, ◌≤◌, pos, ◌+ℤ◌, ◌≤ℤ◌, ◌<ℤ◌, ℕ, ◌++◌, length, replicate, IfOk};
-ghost use Rattle.soft_driver.specs.Frame.{bytes_read, pixel_at, row_read};
+ghost use Rattle.fragment_ops.specs.Frame.{pixel_at};
+ghost use Rattle.soft_driver.specs.Pixels.{bytes_read, row_read};
 ghost use Rattle.soft_driver.specs.Reading.{columns_read, Divides, IsInside};
 
-use crate::frame::Frame;
+use fragment_ops::Frame;
 use gl_memory::Octets;
 use std::alloc::{AllocError as NoMemory, Global};
 
@@ -15,89 +16,87 @@ struct Columns {
     until: u32,
 }
 
-impl Frame {
-    /// The bytes of a rectangle of pixels from its lower left corner on, zeros outside the frame. It takes memory for them
-    /// and for nothing else (section 4.3.1).
-    pub(crate) fn read(
-        &self,
-        alloc: Global,
-        x: i32,
-        y: i32,
-        width: u32,
-        height: u32,
-    ) -> Result<Octets, NoMemory>
-        requires wide { width ≤ 512 }
-        requires high { height ≤ 512 }
-        ensures { IfOk result (λ octets. octets.items ≡ bytes_read self.now x y width height) }
-    {
-        let mut bytes = Octets::new(alloc, u64::from(height) * (4 * u64::from(width)))?;
-        for row in 0..height {
-            self.read_row(x, i64::from(y) + i64::from(row), width, &mut bytes);
-        }
-        Ok(bytes)
+/// The bytes of a rectangle of pixels from its lower left corner on, zeros outside the frame. It takes memory for them
+/// and for nothing else (section 4.3.1).
+pub(crate) fn read(
+    frame: &Frame,
+    alloc: Global,
+    x: i32,
+    y: i32,
+    width: u32,
+    height: u32,
+) -> Result<Octets, NoMemory>
+    requires wide { width ≤ 512 }
+    requires high { height ≤ 512 }
+    ensures { IfOk result (λ octets. octets.items ≡ bytes_read frame.now x y width height) }
+{
+    let mut bytes = Octets::new(alloc, u64::from(height) * (4 * u64::from(width)))?;
+    for row in 0..height {
+        read_row(frame, x, i64::from(y) + i64::from(row), width, &mut bytes);
     }
+    Ok(bytes)
+}
 
-    /// Adds the bytes of a row of pixels from column x on.
-    fn read_row(&self, x: i32, row: i64, width: u32, bytes: &mut Octets)
-        requires wide { width ≤ 512 }
-        requires room { length bytes.old.items + 4 * width ≤ bytes.old.room }
-        ensures read { bytes.new
-            ≡ record bytes.old { items = bytes.old.items ++ row_read self.now x row width } }
-        ensures long { length bytes.new.items ≡ length bytes.old.items + 4 * width }
-    {
-        if row < 0 {
-            add_zeros(bytes, width);
-        } else if i64::from(self.height()) <= row {
-            add_zeros(bytes, width);
-        } else {
-            self.read_parts(x, row as u32, width, bytes);
-        }
+/// Adds the bytes of a row of pixels from column x on.
+fn read_row(frame: &Frame, x: i32, row: i64, width: u32, bytes: &mut Octets)
+    requires wide { width ≤ 512 }
+    requires room { length bytes.old.items + 4 * width ≤ bytes.old.room }
+    ensures read { bytes.new
+        ≡ record bytes.old { items = bytes.old.items ++ row_read frame.now x row width } }
+    ensures long { length bytes.new.items ≡ length bytes.old.items + 4 * width }
+{
+    if row < 0 {
+        add_zeros(bytes, width);
+    } else if i64::from(frame.height()) <= row {
+        add_zeros(bytes, width);
+    } else {
+        read_parts(frame, x, row as u32, width, bytes);
     }
+}
 
-    /// Adds the bytes of a row of pixels from column x on, where the row lies inside the frame.
-    fn read_parts(&self, x: i32, row: u32, width: u32, bytes: &mut Octets)
-        requires wide { width ≤ 512 }
-        requires inside { row < self.now.height }
-        requires room { length bytes.old.items + 4 * width ≤ bytes.old.room }
-        ensures read { bytes.new
-            ≡ record bytes.old { items = bytes.old.items ++ row_read self.now x (pos row) width } }
-        ensures long { length bytes.new.items ≡ length bytes.old.items + 4 * width }
-    {
-        let columns = divided(x, self.width(), width);
-        add_zeros(bytes, columns.first);
-        self.read_columns(x, row, columns, bytes);
-        add_zeros(bytes, width - columns.until);
-    }
+/// Adds the bytes of a row of pixels from column x on, where the row lies inside the frame.
+fn read_parts(frame: &Frame, x: i32, row: u32, width: u32, bytes: &mut Octets)
+    requires wide { width ≤ 512 }
+    requires inside { row < frame.now.height }
+    requires room { length bytes.old.items + 4 * width ≤ bytes.old.room }
+    ensures read { bytes.new
+        ≡ record bytes.old { items = bytes.old.items ++ row_read frame.now x (pos row) width } }
+    ensures long { length bytes.new.items ≡ length bytes.old.items + 4 * width }
+{
+    let columns = divided(x, frame.width(), width);
+    add_zeros(bytes, columns.first);
+    read_columns(frame, x, row, columns, bytes);
+    add_zeros(bytes, width - columns.until);
+}
 
-    /// Adds the bytes of those pixels of a row that lie inside the frame.
-    fn read_columns(&self, x: i32, row: u32, columns: Columns, bytes: &mut Octets)
-        requires row { row < self.now.height }
-        requires ordered { columns.first ≤ columns.until }
-        requires columns { (at : ℕ) → columns.first ≤ at → at < columns.until
-            → IsInside (x +ℤ pos at) self.now.width }
-        requires room { length bytes.old.items + 4 * (columns.until - columns.first)
-            ≤ bytes.old.room }
-        ensures read { bytes.new ≡ record bytes.old {
-          items = bytes.old.items
-              ++ columns_read self.now x (pos row) columns.first (columns.until - columns.first);
-        } }
-        ensures long { length bytes.new.items
-            ≡ length bytes.old.items + 4 * (columns.until - columns.first) }
-    {
-        for at in columns.first..columns.until {
-            add_pixel(bytes, self.pixel(column_at(x, at), row));
-        }
+/// Adds the bytes of those pixels of a row that lie inside the frame.
+fn read_columns(frame: &Frame, x: i32, row: u32, columns: Columns, bytes: &mut Octets)
+    requires row { row < frame.now.height }
+    requires ordered { columns.first ≤ columns.until }
+    requires columns { (at : ℕ) → columns.first ≤ at → at < columns.until
+        → IsInside (x +ℤ pos at) frame.now.width }
+    requires room { length bytes.old.items + 4 * (columns.until - columns.first)
+        ≤ bytes.old.room }
+    ensures read { bytes.new ≡ record bytes.old {
+      items = bytes.old.items
+          ++ columns_read frame.now x (pos row) columns.first (columns.until - columns.first);
+    } }
+    ensures long { length bytes.new.items
+        ≡ length bytes.old.items + 4 * (columns.until - columns.first) }
+{
+    for at in columns.first..columns.until {
+        add_pixel(bytes, pixel(frame, column_at(x, at), row));
     }
+}
 
-    /// The pixel in a column and a row that lie inside the frame.
-    fn pixel(&self, column: u64, row: u32) -> [u8; 4]
-        requires column { column < self.now.width }
-        requires row { row < self.now.height }
-        ensures { result ≡ pixel_at self.now (pos column) (pos row) }
-    {
-        let pixels = self.pixels();
-        pixels[row as usize * self.width() as usize + column as usize]
-    }
+/// The pixel in a column and a row that lie inside the frame.
+fn pixel(frame: &Frame, column: u64, row: u32) -> [u8; 4]
+    requires column { column < frame.now.width }
+    requires row { row < frame.now.height }
+    ensures { result ≡ pixel_at frame.now (pos column) (pos row) }
+{
+    let cells = frame.cells();
+    cells[row as usize * frame.width() as usize + column as usize].colour
 }
 
 /// A column of the frame, counted from column x on, as counted from the frame's left.

@@ -1,21 +1,27 @@
 //! The driver that carries calls out by itself, in memory. It packs nothing and waits for nobody.
 
-ghost use Rattle.std.specs.Prelude.{◌≡◌, ◌≢◌, ◌<◌, ◌≤◌, ◌≤ℤ◌, pos, true, false, List, None, IfOk, IsOk, IsErr, OnErr};
+ghost use Rattle.std.specs.Prelude.{◌≡◌, ◌≢◌, ◌+◌, ◌^◌, ◌<◌, ◌≤◌, ◌≤ℤ◌, pos, ℕ, true, false, List, None, IfOk, IsOk, IsErr, OnErr};
 ghost use Rattle.std.specs.Thread.{IsSync};
 ghost use Rattle.gl_words.specs.Call.{is_answering};
 ghost use Rattle.gl_memory.specs.Segment.{Segment};
 ghost use Rattle.gl_tracked.specs.Fault.{fault_of};
 ghost use Rattle.driver_trait.specs.Reply.{replied, Bytes};
 ghost use Rattle.gl_tracked.specs.Tracked.{IsSound};
-ghost use Rattle.gl_state.specs.Private.{AreSides};
+ghost use Rattle.triangle_draw.specs.Draw.{cell_after_draw};
+ghost use Rattle.fragment_ops.specs.Cell.{cell_after_clear};
+ghost use Rattle.fragment_ops.specs.Frame.{frame_changed, AreSides};
+ghost use Rattle.gl_state.specs.Settings.{fragment_state_of};
 ghost use Rattle.gl_state.specs.Event.{EventReplied, NoEvent, event_replied};
 ghost use Rattle.gl_state.specs.Step.{fault_in, plan_of, private_reply, room_of};
-ghost use Rattle.soft_driver.specs.Frame.{bytes_read};
-ghost use Rattle.soft_driver.specs.Own.{first_own, frame_after, own_reply, own_step, replies_list, side_of};
+ghost use Rattle.soft_driver.specs.Drawing.{drawing_of};
+ghost use Rattle.soft_driver.specs.Pixels.{bytes_read};
+ghost use Rattle.soft_driver.specs.Own.{clears_colour, clears_depth, first_own, frame_after, own_reply, own_step, replies_list, number_of};
 ghost use Rattle.soft_driver.specs.Soft.{own_tracked, OwnSteps, soft_is_driver};
 
-use crate::frame::Frame;
+use crate::drawing::drawing_of;
+use crate::reading;
 use driver_trait::{Driver, Machine, Reply, WaitDriver};
+use fragment_ops::Frame;
 use gl_memory::Memory;
 use gl_state::{EventReply, Plan, Private};
 use gl_tracked::Tracked;
@@ -24,9 +30,12 @@ use std::alloc::{AllocError as NoMemory, Global};
 use std::marker::Model;
 use std::sync::Wait;
 use std::thread::Threads;
+use triangle_draw::draw as draw_triangles;
 
-/// The bit of the colour buffer (section 4.2.3).
+/// The bits of the colour buffer and of the depth buffer (section 4.2.3).
 const COLOUR_BIT: u32 = 0x4000;
+
+const DEPTH_BIT: u32 = 0x100;
 
 /// A context with its frame, which carries out each call as it comes; own. Contracts see its own state.
 #[derive(Drop)]
@@ -117,11 +126,9 @@ impl Soft {
         requires wide { width ≤ℤ pos 512 }
         requires high { height ≤ℤ pos 512 }
         ensures { IfOk result (λ reply. replied reply
-            ≡ Bytes (bytes_read self.now.frame x y (side_of width) (side_of height))) }
+            ≡ Bytes (bytes_read self.now.frame x y (number_of width) (number_of height))) }
     {
-        let bytes = self
-            .frame
-            .read(self.alloc, x, y, side(width), side(height))?;
+        let bytes = reading::read(&self.frame, self.alloc, x, y, number(width), number(height))?;
         Ok(Reply::Bytes(bytes))
     }
 
@@ -142,7 +149,7 @@ impl Soft {
         requires plan { plan ≡ plan_of self.old.state call.now }
         ensures { self.new ≡ (own_step self.old call.now (M.segments memory.now) NoEvent).own }
     {
-        draw(plan, &self.state, &mut self.frame, call);
+        draw(plan, &self.state, &mut self.frame, call, memory);
         self.state.finish(plan, call, memory, &EventReply);
     }
 
@@ -218,33 +225,79 @@ impl WaitDriver for Soft {
     }
 }
 
-/// A number without its sign, where it has none; no side that is read is below 0.
-fn side(number: i32) -> u32
-    ensures side { result ≡ side_of number }
-    ensures few { number ≤ℤ pos 512 → result ≤ 512 }
+/// A number that isn't below 0, and 0 for all others; no side that is read and no element that is drawn is below 0.
+fn number(signed: i32) -> u32
+    ensures number { result ≡ number_of signed }
+    ensures few { (most : ℕ) → signed ≤ℤ pos most → result ≤ most }
+    ensures fits { result < 2 ^ 31 }
 {
-    if number < 0 { 0 } else { number as u32 }
+    if signed < 0 { 0 } else { signed as u32 }
 }
 
 /// Changes the pixels that a call with its plan changes.
-fn draw(plan: Plan, state: &Private, frame: &mut Frame, call: &Call)
+fn draw<M: Memory>(plan: Plan, state: &Private, frame: &mut Frame, call: &Call, memory: &M)
     requires plan { plan ≡ plan_of state.now call.now }
-    ensures { (memory : List Segment) (event : EventReplied) → frame.new
-        ≡ frame_after (fault_in plan) state.now frame.old call.now memory event }
+    ensures { (event : EventReplied) → frame.new ≡ frame_after (fault_in plan) state.now frame.old
+        call.now (M.segments memory.now) event }
 {
     match plan {
-        Plan::Draw => clear(state, frame, call),
+        Plan::Draw => draw_planned(state, frame, call, memory),
         _ => {}
     }
 }
 
-/// Changes the pixels that a call without an error changes (section 4.2.3).
-fn clear(state: &Private, frame: &mut Frame, call: &Call)
-    ensures { (memory : List Segment) (event : EventReplied) → frame.new
-        ≡ frame_after None state.now frame.old call.now memory event }
+/// Changes the pixels that a call without an error changes (sections 2.8 and 4.2.3).
+fn draw_planned<M: Memory>(state: &Private, frame: &mut Frame, call: &Call, memory: &M)
+    requires no_fault { fault_of state.now.tracked call.now ≡ None }
+    ensures { (event : EventReplied) → frame.new ≡ frame_after None state.now frame.old call.now
+        (M.segments memory.now) event }
 {
     match call {
-        Call::Clear { mask } if mask & COLOUR_BIT == COLOUR_BIT => frame.fill(state.clear_colour()),
+        Call::Clear { mask } => clear(state, frame, *mask),
+        Call::DrawArrays { mode, first, count } => {
+            draw_arrays(state, frame, *mode, *first, *count, memory);
+        }
         _ => {}
     }
+}
+
+/// Clears what a mask has a bit of (section 4.2.3).
+fn clear(state: &Private, frame: &mut Frame, mask: u32)
+    ensures { frame.new ≡ frame_changed (λ place. cell_after_clear place
+        (fragment_state_of state.now.settings) (clears_colour mask) (clears_depth mask)) frame.old }
+{
+    let fragments = state.fragment_state();
+    frame.clear(&fragments, clears_colour(mask), clears_depth(mask));
+}
+
+/// Whether a mask has the bit of the colour buffer (section 4.2.3).
+fn clears_colour(mask: u32) -> bool
+    ensures { result ≡ clears_colour mask }
+{
+    mask & COLOUR_BIT == COLOUR_BIT
+}
+
+/// Whether a mask has the bit of the depth buffer (section 4.2.3).
+fn clears_depth(mask: u32) -> bool
+    ensures { result ≡ clears_depth mask }
+{
+    mask & DEPTH_BIT == DEPTH_BIT
+}
+
+/// Draws so many elements from the first on (section 2.8).
+fn draw_arrays<M: Memory>(
+    state: &Private,
+    frame: &mut Frame,
+    mode: u32,
+    first: i32,
+    count: i32,
+    memory: &M,
+)
+    requires few { count ≤ℤ pos 65536 }
+    ensures { frame.new ≡ frame_changed (cell_after_draw (drawing_of state.now)
+        (M.segments memory.now) mode (λ number. number_of first + number) (number_of count))
+        frame.old }
+{
+    let drawing = drawing_of(state);
+    draw_triangles(frame, &drawing, memory, mode, number(first), number(count));
 }

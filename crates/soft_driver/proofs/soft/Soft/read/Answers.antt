@@ -5,8 +5,8 @@ use Rattle.driver_trait.specs.declared.reply.Reply.{Reply}
 use Rattle.driver_trait.specs.Reply.{Replied, replied, Bytes}
 use Rattle.gl_state.specs.declared.plan.Plan.TheVariants.{Read}
 use Rattle.gl_state.proofs.Stepping.{fault_of-planned}
-use Rattle.soft_driver.specs.Frame.{bytes_read}
-use Rattle.soft_driver.specs.Own.{own_reply, side_of}
+use Rattle.soft_driver.specs.Pixels.{bytes_read}
+use Rattle.soft_driver.specs.Own.{own_reply, number_of}
 use Rattle.soft_driver.proofs.Replies.{pixels_are_few, read_is_no_other}
 use Rattle.soft_driver.proofs.soft.Soft.read.Goals as goal
 
@@ -31,7 +31,7 @@ returns-clause-reply c event =
     let width : SFits w32 read.width = search rules in
     let height : SFits w32 read.height = search rules in
     let own = c.args.self.now in
-    let bytes : ℤ → ℤ → ℤ → ℤ → Replied = λ x y width height. Bytes (bytes_read own.frame x y (side_of width) (side_of height)) in
+    let bytes : ℤ → ℤ → ℤ → ℤ → Replied = λ x y width height. Bytes (bytes_read own.frame x y (number_of width) (number_of height)) in
     let passed : bytes (to_z w32 (of_z w32 read.x)) (to_z w32 (of_z w32 read.y)) (to_z w32 (of_z w32 read.width)) (to_z w32 (of_z w32 read.height)) ≡ bytes read.x read.y read.width read.height =
     cc (to_z-of_z w32 read.x x, to_z-of_z w32 read.y y, to_z-of_z w32 read.width width, to_z-of_z w32 read.height height) in
     let told : bytes read.x read.y read.width read.height ≡ own_reply None own c.args.call.now event = rw read.is refl in

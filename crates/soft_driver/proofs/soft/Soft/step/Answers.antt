@@ -11,7 +11,7 @@ use Rattle.soft_driver.proofs.soft.Soft.step.Goals as goal
 pub invariant_of-self : goal.invariant_of-self
 invariant_of-self g c =
     step_keeps_sides c.self.inside.state c.self.inside.frame (g.M.Memory.segments c.args.memory.now) NoEvent (fault_in c.args.plan) c.args.call.now
-    c.finish.new.self c.draw.new.frame c.self.invariant c.finish.ensures (c.draw.ensures (g.M.Memory.segments c.args.memory.now) NoEvent)
+    c.finish.new.self c.draw.new.frame c.self.invariant c.finish.ensures (c.draw.ensures NoEvent)
 
 pub returns : goal.returns
 returns g c =
@@ -19,5 +19,5 @@ returns g c =
     let call = c.args.call.now in
     let plan = c.args.plan in
     let planned = fault_of-planned c.self.inside.state call plan (c.requires.plan ∙ ap (λ (own : Own). plan_of own.state call) (sym c.self.view_is)) in
-    own_stepped (the_view c.self.inside) call memory NoEvent (fault_in plan) planned c.finish.new.self c.draw.new.frame c.finish.ensures (c.draw.ensures memory NoEvent)
+    own_stepped (the_view c.self.inside) call memory NoEvent (fault_in plan) planned c.finish.new.self c.draw.new.frame c.finish.ensures (c.draw.ensures NoEvent)
     ∙ ap (λ (own : Own). (own_step own call memory NoEvent).own) c.self.view_is

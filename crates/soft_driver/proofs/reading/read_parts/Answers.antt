@@ -1,10 +1,10 @@
 use Rattle.std.proofs.Common.{ℕ, ◌-◌, ◌*◌, ℤ, pos, List, ◌++◌, replicate, ap, subst, ◌∙◌, w32, to_z, of_z}
 use Rattle.std.proofs.lemmas.Int.{to_z-of_z}
 use Rattle.gl_memory.specs.Room.{RoomView}
-use Rattle.soft_driver.specs.Frame.{row_read}
+use Rattle.soft_driver.specs.Pixels.{row_read}
 use Rattle.soft_driver.specs.Reading.{columns_read, Divides}
 use Rattle.soft_driver.proofs.Readings.{row_read-added}
-use Rattle.soft_driver.proofs.frame.Frame.read_parts.Goals as goal
+use Rattle.soft_driver.proofs.reading.read_parts.Goals as goal
 
 -- bytes with more behind them
 abbrev with_more : List ℕ → RoomView ℕ → RoomView ℕ
@@ -12,7 +12,7 @@ with_more more b = record b { items = b.items ++ more }
 
 pub returns-clause-read : goal.returns-clause-read
 returns-clause-read c =
-    let frame = c.args.self.now in
+    let frame = c.args.frame.now in
     let x = to_z w32 (of_z w32 c.args.x) in
     let row = pos c.args.row in
     let old = c.args.bytes.now in

@@ -1,9 +1,9 @@
 use Rattle.std.proofs.Common.{◌≡◌, ℕ, ◌+◌, ◌*◌, ℤ, pos, ◌+ℤ◌, List, ◌++◌, length, sym, ap, ◌∙◌, w32, w64, to_z, of_z, arith}
 use Rattle.std.proofs.lemmas.Int.{ints}
 use Rattle.gl_memory.specs.Room.{RoomView}
-use Rattle.soft_driver.specs.Frame.{bytes_read, row_read}
+use Rattle.soft_driver.specs.Pixels.{bytes_read, row_read}
 use Rattle.soft_driver.proofs.Readings.{bytes_read-more, bytes_read-none}
-use Rattle.soft_driver.proofs.frame.Frame.read.Goals as goal
+use Rattle.soft_driver.proofs.reading.read.Goals as goal
 
 -- one more row of so many bytes
 one_more : (rows bytes : ℕ) → rows * bytes + bytes ≡ (rows + 1) * bytes
@@ -14,7 +14,7 @@ no_rows bytes = grind arith
 
 pub loop-row-init : goal.loop-row-init
 loop-row-init c =
-    let none = bytes_read-none c.args.self.now (to_z w32 (of_z w32 c.args.x)) (to_z w32 (of_z w32 c.args.y)) c.args.width in
+    let none = bytes_read-none c.args.frame.now (to_z w32 (of_z w32 c.args.x)) (to_z w32 (of_z w32 c.args.y)) c.args.width in
     let made = c.in_ok-bytes.ensures in
     record {
       read = cc (made, none);
@@ -23,7 +23,7 @@ loop-row-init c =
 
 pub loop-row-preserved : goal.loop-row-preserved
 loop-row-preserved c =
-    let frame = c.args.self.now in
+    let frame = c.args.frame.now in
     let x = to_z w32 (of_z w32 c.args.x) in
     let y = to_z w32 (of_z w32 c.args.y) in
     let width = c.args.width in

@@ -1,0 +1,87 @@
+//! What a draw goes by, taken from the private state of a context. It is made once a draw.
+
+ghost use Rattle.std.specs.Prelude.{◌≡◌, ◌<◌};
+ghost use Rattle.triangle_raster.specs.Vertex.{IsView};
+ghost use Rattle.gl_tracked.specs.Tracked.{IsArray};
+ghost use Rattle.vertex_stage.specs.Vertex.{HasArrays};
+ghost use Rattle.triangle_draw.specs.Drawing.{IsDrawing};
+ghost use Rattle.gl_state.specs.Settings.{IsViewport};
+ghost use Rattle.soft_driver.specs.Drawing.{drawing_of, stage_of, texturing_of, view_of};
+
+use gl_state::Private;
+use triangle_draw::Drawing;
+use triangle_raster::View;
+use vertex_stage::{Stage, Texturing};
+
+/// The number of SMOOTH (section 2.12.7).
+const SMOOTH: u32 = 0x1D01;
+
+/// What a vertex takes in the unit at place 0 or 1.
+#[tactic(auto, unfolding(crate::specs::Drawing::texturing_of))]
+fn texturing_of(state: &Private, unit: usize) -> Texturing
+    requires unit { unit < 2 }
+    ensures texturing { result ≡ texturing_of state.now unit }
+    ensures array { IsArray result.coordinates }
+{
+    let tracked = state.tracked();
+    let settings = state.settings();
+    Texturing {
+        coordinates: tracked.texture[unit],
+        current: settings.coordinates[unit],
+        matrix: *state.texture_matrix(unit),
+    }
+}
+
+/// What vertices are made from.
+#[tactic(auto, unfolding(crate::specs::Drawing::stage_of))]
+fn stage_of(state: &Private) -> Stage
+    ensures stage { result ≡ stage_of state.now }
+    ensures arrays { HasArrays result }
+{
+    let tracked = state.tracked();
+    let settings = state.settings();
+    Stage {
+        vertex: tracked.vertex,
+        colour: tracked.colour,
+        current_colour: settings.colour,
+        first_unit: texturing_of(state, 0),
+        second_unit: texturing_of(state, 1),
+        model_view: *state.model_view(),
+        projection: *state.projection(),
+        is_smooth: settings.shade_model == SMOOTH,
+    }
+}
+
+/// A viewport of x, y, width and height.
+#[tactic(auto, unfolding(crate::specs::Drawing::view_of))]
+fn view_of(viewport: [i32; 4]) -> View
+    requires viewport { IsViewport viewport }
+    ensures view { result ≡ view_of viewport }
+    ensures whole { IsView result }
+{
+    let [x, y, width, height] = viewport;
+    View {
+        x,
+        y,
+        width,
+        height,
+    }
+}
+
+/// What a draw goes by (sections 2.10.1, 2.12.1, 3.5.1 and chapter 4).
+#[tactic(auto, unfolding(crate::specs::Drawing::drawing_of))]
+pub(crate) fn drawing_of(state: &Private) -> Drawing
+    ensures drawing { result ≡ drawing_of state.now }
+    ensures whole { IsDrawing result }
+{
+    let settings = state.settings();
+    Drawing {
+        stage: stage_of(state),
+        view: view_of(settings.viewport),
+        depth_range: settings.depth_range,
+        culls: settings.capabilities.cull_face,
+        cull_face: settings.cull_face,
+        front_face: settings.front_face,
+        fragments: state.fragment_state(),
+    }
+}
