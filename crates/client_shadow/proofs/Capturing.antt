@@ -1,27 +1,47 @@
 -- What is captured for a call that is put off is what it reads.
-use Rattle.std.proofs.Common.{◌≡◌, ℕ, ◌<◌, inl, inr, List, length, get_or, sym, ap, subst, ◌∙◌, arith}
+use Rattle.std.proofs.Common.{◌≡◌, ℕ, ◌<◌, inl, inr, List, [], Option, Some, None, length, get_or, sym, ap, subst, ◌∙◌, arith}
 use Rattle.std.specs.List.{All, range_with_len}
 use Rattle.std.proofs.lemmas.Bool.{cases_lt}
 use Rattle.std.proofs.lemmas.List.{get_or_past}
-use Rattle.std.proofs.lemmas.List.Elements.{All-map}
+use Rattle.std.proofs.lemmas.List.Elements.{All-map, All-nil}
 use Rattle.gl_words.specs.declared.call.Call.{Call}
-use Rattle.gl_memory.specs.Piece.{bytes_from, cut, cut_out}
+use Rattle.gl_words.specs.declared.call.Call.TheVariants.{DrawArrays, LoadMatrixx, MultMatrixx}
+use Rattle.gl_words.specs.declared.error.GlError.{GlError}
+use Rattle.gl_memory.specs.Piece.{Agree, LiesIn, bytes_from, cut, cut_out}
 use Rattle.gl_memory.specs.Segment.{Segment, byte_at, AreBytes}
 use Rattle.gl_memory.specs.ClientMemory.{memory_of}
 use Rattle.gl_memory.specs.declared.piece.Piece.{Piece}
 use Rattle.gl_memory.proofs.Bytes.{byte_at-memory_of}
 use Rattle.gl_tracked.specs.declared.tracked.Tracked.{Tracked}
+use Rattle.gl_tracked.specs.Fault.{fault_of}
 use Rattle.gl_tracked.specs.Reads.{AgreesOn}
-use Rattle.gl_tracked.specs.Step.{reads_of}
-use Rattle.gl_tracked.proofs.Stepping.{AgreesOn-none}
+use Rattle.gl_tracked.specs.Step.{none_on_fault, ranges_of, reads_of}
+use Rattle.array_capture.proofs.Covering.{pieces_of_draw-serve, pieces_of_matrix-serve}
 use Rattle.batch_pack.specs.Batch.{captured}
 use Rattle.client_shadow.specs.declared.class.Class.TheVariants.{Defer}
-use Rattle.client_shadow.specs.Class.{class_of, captured_for, pieces_of}
+use Rattle.client_shadow.specs.Class.{class_of, captured_for, pieces_of, pieces_without_fault}
 
--- memory and what is captured of it agree where the call reads: no call reads memory yet
+-- for a call without an error
+agrees_without_fault : (tracked : Tracked) (call : Call) (memory : List Segment)
+    → Agree memory (cut (pieces_without_fault tracked call memory) memory) (ranges_of tracked call)
+unfolding pieces_without_fault ranges_of
+agrees_without_fault tracked (DrawArrays mode first count) memory = (pieces_of_draw-serve tracked first count memory).agree
+agrees_without_fault tracked (LoadMatrixx matrix) memory = (pieces_of_matrix-serve matrix memory).agree
+agrees_without_fault tracked (MultMatrixx matrix) memory = (pieces_of_matrix-serve matrix memory).agree
+agrees_without_fault tracked _ memory = All-nil (λ (range : Piece). (place : ℕ) → LiesIn place range → byte_at memory place ≡ byte_at (cut [] memory) place)
+
+-- where there is an error nothing is read, and nothing captured
+agrees_on_fault : (fault : Option GlError) (pieces ranges : List Piece) (memory : List Segment) → Agree memory (cut pieces memory) ranges
+    → Agree memory (cut (none_on_fault fault pieces) memory) (none_on_fault fault ranges)
+agrees_on_fault None pieces ranges memory agrees = agrees
+agrees_on_fault (Some error) pieces ranges memory agrees = All-nil (λ (range : Piece). (place : ℕ) → LiesIn place range → byte_at memory place ≡ byte_at (cut [] memory) place)
+
+-- memory and what is captured of it agree where the call reads
 pub captured_agrees : (tracked : Tracked) (call : Call) (memory : List Segment) (slots : ℕ) → class_of tracked call memory slots ≡ Defer
     → AgreesOn memory (cut (pieces_of tracked call memory) memory) (reads_of tracked call memory)
-captured_agrees tracked call memory slots class = AgreesOn-none tracked call memory memory (cut (pieces_of tracked call memory) memory)
+unfolding pieces_of reads_of
+captured_agrees tracked call memory slots class =
+    agrees_on_fault (fault_of tracked call) (pieces_without_fault tracked call memory) (ranges_of tracked call) memory (agrees_without_fault tracked call memory)
 
 -- a call with these pieces, as a batch packs it, is the call with what is captured for it
 pub captured-captured_for : (tracked : Tracked) (call : Call) (pieces : List Piece) (bytes : List ℕ) → pieces ≡ pieces_of tracked call (memory_of bytes)

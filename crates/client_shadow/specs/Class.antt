@@ -2,20 +2,29 @@
 use Rattle.std.specs.Prelude.{ℕ, Bool, nat_lt, if◌then◌else◌, List, [], is_some, true, false}
 use Rattle.gl_words.specs.Call.{is_answering}
 use Rattle.gl_words.specs.declared.call.Call.{Call}
-use Rattle.gl_words.specs.declared.call.Call.TheVariants.{Finish}
+use Rattle.gl_words.specs.declared.call.Call.TheVariants.{DrawArrays, Finish, LoadMatrixx, MultMatrixx}
 use Rattle.gl_memory.specs.Segment.{Segment}
 use Rattle.gl_memory.specs.Piece.{cut}
 use Rattle.gl_memory.specs.declared.piece.Piece.{Piece}
+use Rattle.array_capture.specs.Pieces.{pieces_of_draw, pieces_of_matrix}
 use Rattle.client_shadow.specs.Cutting.{Issued}
 use Rattle.batch_pack.specs.Spelling.{Spelled, slots_of}
 use Rattle.client_shadow.specs.declared.class.Class.{Class}
 use Rattle.client_shadow.specs.declared.class.Class.TheVariants.{Answer, Sync, Defer}
 use Rattle.gl_tracked.specs.declared.tracked.Tracked.{Tracked}
-use Rattle.gl_tracked.specs.Step.{number_asked}
+use Rattle.gl_tracked.specs.Fault.{fault_of}
+use Rattle.gl_tracked.specs.Step.{none_on_fault, number_asked}
 
--- the pieces of client memory that are captured for a call: no call reads memory yet; own
+-- the pieces of client memory for a call without an error: those of a draw and that of a matrix, and none for any other call; sections 2.8 and 2.10.2, the cut own
+unfoldable pub pieces_without_fault : Tracked → Call → List Segment → List Piece
+pieces_without_fault tracked (DrawArrays mode first count) memory = pieces_of_draw tracked first count memory
+pieces_without_fault tracked (LoadMatrixx matrix) memory = pieces_of_matrix matrix memory
+pieces_without_fault tracked (MultMatrixx matrix) memory = pieces_of_matrix matrix memory
+pieces_without_fault tracked _ memory = []
+
+-- the pieces of client memory that are captured for a call: a call with an error reads nothing, so there are none for it; own
 unfoldable pub pieces_of : Tracked → Call → List Segment → List Piece
-pieces_of tracked call memory = []
+pieces_of tracked call memory = none_on_fault (fault_of tracked call) (pieces_without_fault tracked call memory)
 
 -- a call with what is captured for it; own
 unfoldable pub captured_for : Tracked → Call → List Segment → Spelled

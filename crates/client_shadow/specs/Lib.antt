@@ -3,6 +3,7 @@ pub mod Cutting
 pub mod Class
 pub mod Look
 pub mod Law
+pub use Rattle.array_capture.specs.Pieces
 pub use Rattle.gl_tracked.specs.Fault
 pub use Rattle.gl_tracked.specs.Step
 pub use Rattle.gl_tracked.specs.Tracked

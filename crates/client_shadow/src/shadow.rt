@@ -10,11 +10,12 @@ ghost use Rattle.gl_tracked.specs.Step.{number_asked, tracked_after};
 ghost use Rattle.gl_tracked.specs.Tracked.{first_tracked, IsSound};
 ghost use Rattle.batch_pack.specs.Spelling.{slots_of};
 ghost use Rattle.client_shadow.specs.declared.class.Class.TheVariants.{Answer};
-ghost use Rattle.client_shadow.specs.Class.{captured_for, class_of, class_unasked, is_finish, pieces_of};
+ghost use Rattle.client_shadow.specs.Class.{captured_for, class_of, class_unasked, is_finish, pieces_of, pieces_without_fault};
 ghost use Rattle.client_shadow.specs.Look.{Captures, HasHeading, asks_in, class_in, number_in};
 
 use crate::class::Class;
 use crate::look::{Becomes, Look};
+use array_capture::{pieces_of_draw, pieces_of_matrix};
 use batch_pack::heading_of;
 use gl_memory::{ClientMemory, Pieces};
 use gl_tracked::{Finding, Tracked};
@@ -84,13 +85,14 @@ impl Shadow {
                 fault: None,
             },
             Finding::Fault(fault) => Look {
-                becomes: self.wait_or_defer(call, row, memory, slots),
+                becomes: self.wait_or_defer(call, row, memory, slots, fault),
                 fault,
             },
         }
     }
 
-    /// What becomes of a call that asks for no number of tracked state. The slots of one that waits in any case aren't counted.
+    /// What becomes of a call that asks for no number of tracked state, given its error. For one that waits in any case no pieces
+    /// are looked for and no slots are counted.
     #[tactic(auto, unfolding(crate::specs::Class::captured_for))]
     fn wait_or_defer(
         &self,
@@ -98,8 +100,10 @@ impl Shadow {
         row: &TableRow,
         memory: &ClientMemory,
         slots: u32,
+        fault: Option<GlError>,
     ) -> Becomes
         requires row { IsRowOf row.now call.now }
+        requires fault { fault ≡ fault_of self.now call.now }
         requires few { length row.now.kinds.now ≤ 9 }
         ensures class { class_in result ≡ class_unasked call.now
             (slots_of (captured_for self.now call.now (memory_of memory.now))) slots }
@@ -113,7 +117,7 @@ impl Shadow {
                 asks: row.answering,
             };
         }
-        let pieces = pieces(&self.tracked, call, memory);
+        let pieces = pieces(&self.tracked, call, memory, fault);
         let heading = heading_of(row, &pieces);
         if u64::from(slots) < heading.slots {
             return Becomes::Sync { asks: false };
@@ -138,12 +142,32 @@ impl Shadow {
     }
 }
 
-/// The pieces of client memory that are captured for a call: no call reads memory yet.
+/// The pieces of client memory that are captured for a call, given its error: none where it has one (section 2.5).
 #[tactic(auto, unfolding(crate::specs::Class::pieces_of))]
-fn pieces(_tracked: &Tracked, _call: &Call, _memory: &ClientMemory) -> Pieces
-    ensures { result ≡ pieces_of _tracked.now _call.now (memory_of _memory.now) }
+fn pieces(tracked: &Tracked, call: &Call, memory: &ClientMemory, fault: Option<GlError>) -> Pieces
+    requires sound { IsSound tracked.now }
+    requires fault { fault ≡ fault_of tracked.now call.now }
+    ensures { result ≡ pieces_of tracked.now call.now (memory_of memory.now) }
 {
-    Pieces::new()
+    match fault {
+        Some(_) => Pieces::new(),
+        None => pieces_without_fault(tracked, call, memory),
+    }
+}
+
+/// The pieces of client memory for a call without an error (sections 2.8 and 2.10.2).
+#[tactic(auto, unfolding(crate::specs::Class::pieces_without_fault))]
+fn pieces_without_fault(tracked: &Tracked, call: &Call, memory: &ClientMemory) -> Pieces
+    requires sound { IsSound tracked.now }
+    ensures { result ≡ pieces_without_fault tracked.now call.now (memory_of memory.now) }
+{
+    match call {
+        Call::DrawArrays { first, count, .. } => pieces_of_draw(tracked, *first, *count, memory),
+        Call::LoadMatrixx { matrix } | Call::MultMatrixx { matrix } => {
+            pieces_of_matrix(*matrix, memory)
+        }
+        _ => Pieces::new(),
+    }
 }
 
 /// Whether a call is Finish (section 5.1).
