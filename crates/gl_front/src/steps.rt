@@ -21,7 +21,7 @@ use gl_words::Call;
 use std::thread::Threads;
 
 /// Submits the open batch unless it is empty, and leaves an empty one there. Tells how many were
-/// submitted: 0 or 1.
+/// submitted: 0 or 1. Own.
 pub fn submit_open<H: Reach<W, D, R>, W, T: Threads + Sync, D: Machine, R: RailState<D>>(
     rt: &T,
     wait: &W,
@@ -102,7 +102,7 @@ fn make_room<H: Reach<W, D, R>, W, T: Threads + Sync, D: Machine, R: RailState<D
 }
 
 /// Puts a deferred call behind those of the open batch, with the batches that end at it submitted. Where the call fits and
-/// doesn't send the batch, none ends, and the rail isn't touched. Tells how many were submitted: 0 to 2.
+/// doesn't send the batch, none ends, and the rail isn't touched. Tells how many were submitted: 0 to 2. Own.
 pub fn put_off<H: Reach<W, D, R>, W, T: Threads + Sync, D: Machine, R: RailState<D>>(
     rt: &T,
     wait: &W,
