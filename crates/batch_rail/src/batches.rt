@@ -42,7 +42,7 @@ impl<'a> Batches<'a> {
         }
     }
 
-    /// The slots of the next batch, which is then no longer to come. None exactly at the end.
+    /// The slots of the next batch, which is then no longer to come. None exactly at the end. Own.
     pub fn next(&mut self) -> Option<&'a [u64]>
         ensures next { MatchOption result (self.old ≡ [])
             (λ slots. TakesFirst self.old self.new slots.now) }

@@ -226,7 +226,7 @@ fn fails<H: Calls<W, D>, W, T: Threads + Sync, D: Machine>(
 pub struct InlineMaker;
 
 impl InlineMaker {
-    /// A maker, which takes no memory.
+    /// A maker, which takes no memory. Own.
     pub fn new() -> InlineMaker {
         InlineMaker
     }

@@ -34,7 +34,7 @@ impl Model for JournalMaker {
 }
 
 impl JournalMaker {
-    /// A maker that says that it is of this kind, with room for so many slots of each context.
+    /// A maker that says that it is of this kind, with room for so many slots of each context. Own.
     pub fn new(alloc: Global, kind: RailKind, room: u64) -> Result<JournalMaker, NoMemory>
         ensures kind { IfOk result (λ maker. maker.kind ≡ kind) }
         ensures journals { IfOk result (λ maker. (context : ℕ) → context < 4
@@ -52,7 +52,7 @@ impl JournalMaker {
     }
 
     /// The batches that were submitted to a context, in order. None where a rail of the context is out, and once they
-    /// have more slots than there is room for.
+    /// have more slots than there is room for. Own.
     pub fn journal(&self, context: u32) -> Option<Batches<'_>>
         requires context { context < 4 }
         ensures { result ≡ told_by (journal_at self.now.journals context) }

@@ -37,7 +37,7 @@ pub trait RailState<D: Machine>: Drop {
     ghost journal: { Self → Option (List (List Spelled)) };
 }
 
-/// A rail whose calls return.
+/// A rail whose calls return. Own.
 pub trait Rail<D: Driver>: RailState<D> {
     /// Submits a batch, and gives an empty one of the same size.
     fn submit<T: Threads + Sync>(&mut self, rt: &T, full: Batch) -> Batch
@@ -85,7 +85,7 @@ pub trait Rail<D: Driver>: RailState<D> {
         ensures { result ≡ Self.sent self.now };
 }
 
-/// A rail whose calls may wait, with what [`RailState`] tells of it.
+/// A rail whose calls may wait, with what [`RailState`] tells of it. Own.
 pub trait WaitRail<D: WaitDriver>: RailState<D> {
     /// Submits a batch, and gives an empty one of the same size.
     fn submit<T: Threads + Sync, W: Wait>(&mut self, rt: &T, wait: &W, full: Batch) -> Batch

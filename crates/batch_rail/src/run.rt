@@ -9,7 +9,7 @@ use std::alloc::AllocError as NoMemory;
 use std::thread::Threads;
 
 /// Carries out the calls of a batch in order, up to the first that is refused memory. The driver is called as `H` calls
-/// it, without waiting or with leave to wait.
+/// it, without waiting or with leave to wait. Own.
 pub fn run_batch<H: Calls<W, D>, W, T: Threads + Sync, D: Machine>(
     rt: &T,
     wait: &W,

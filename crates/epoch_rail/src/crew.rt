@@ -19,7 +19,7 @@ pub trait Begun<D: Machine>: Drop {
     /// What it was given.
     ghost was: { Self → Work D };
 
-    /// Waits for its end, and has back what it was given, with the batches carried out that it received.
+    /// Waits for its end, and has back what it was given, with the batches carried out that it received; own.
     fn end<T: Threads>(self, rt: &T) -> Work<D>
         ensures { Carried D.steps (was self) result };
 }
@@ -32,7 +32,8 @@ pub trait Crew<D: Machine>: Drop {
     /// It may be asked for a worker at any time.
     ghost ready: { Self → Type 0 };
 
-    /// Starts a worker. Where no thread can be started the work comes back, and what was sent may be carried out.
+    /// Starts a worker. Where no thread can be started the work comes back, and what was sent may be carried out;
+    /// own.
     fn begin(&self, work: Work<D>) -> Result<Self::Worker, Work<D>>
         requires ready { ready self.now }
         ensures ok { IfOk result (λ worker. Self.Worker.was worker ≡ work) }
@@ -69,7 +70,7 @@ fn carry_all_there<T: Threads + Wait + Copy + Sync, D: WaitDriver>(rt: T, work: 
 }
 
 /// Starts a worker in a thread of its own, which carries out batches as they come until the interval ends. Where no
-/// thread can be started, the interval ends at once, and the caller does the same.
+/// thread can be started, the interval ends at once, and the caller does the same; own.
 pub fn start<T: Threads + Wait + Copy + Send + Sync + 'static, D: WaitDriver + Send + 'static>(
     rt: T,
     work: Work<D>,

@@ -21,7 +21,7 @@ use std::sync::Wait;
 use std::thread::Threads;
 
 impl<D: Machine, C: Crew<D>> EpochMaker<D, C> {
-    /// A maker whose rails have their workers from this crew. It takes no memory.
+    /// A maker whose rails have their workers from this crew. It takes no memory. Own.
     pub fn new(crew: C) -> EpochMaker<D, C>
         requires ready { C.ready crew }
     {

@@ -19,7 +19,7 @@ pub struct Starts<T, F, H> {
 }
 
 impl<T, F, H> Starts<T, F, H> {
-    /// A crew that starts workers by this function, which is given this handle each time.
+    /// A crew that starts workers by this function, which is given this handle each time. Own.
     pub fn by<D>(rt: T, run: F) -> Starts<T, F, H>
     where
         F: Fn(T, Work<D>) -> Result<H, Work<D>>,
