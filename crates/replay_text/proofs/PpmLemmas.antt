@@ -3,8 +3,8 @@ use Rattle.std.proofs.Common.{◌≡◌, ℕ, zero, suc, ◌+◌, ◌*◌, ◌<�
 use Rattle.std.proofs.lemmas.List.{length-append, length-take}
 use Rattle.std.proofs.Math.Nat.{mul-suc}
 use Rattle.std.proofs.Math.Seq.{drop-append-add, take-append-add}
-use Rattle.std.specs.List.{concat}
-use Rattle.replay_text.specs.Ppm.{colours_of, ppm_head, ppm_of, row_of, rows_from_top}
+use Rattle.fragment_ops.specs.declared.cell.Cell.{Cell}
+use Rattle.replay_text.specs.Ppm.{cells_from_top, cells_of, colours_in, colours_of, ppm_head, ppm_of, row_of, rows_from_top}
 
 -- three bytes of at most four
 length-colours_of : (n : ℕ) (bytes : List ℕ) → length bytes ≤ n * 4 → length (colours_of bytes) ≤ 3 * n
@@ -54,46 +54,18 @@ row_fits items bytes row width height rows below room next is_row left same_room
     let few = length-rows_from_top width height bytes in
     omega arith
 
--- each pixel has four bytes
-abbrev pub Fours : List (List ℕ) → Type 0
-Fours pixels = (i : ℕ) → i < length pixels → length (get_or pixels i []) ≡ 4
+-- a row of cells behind what stands, and then the rows below it
+pub cells_written : (items : List ℕ) (cells row : List Cell) (whole : List ℕ) (width rows below : ℕ) → rows ≡ suc below → row ≡ cells_of width below cells
+    → items ++ cells_from_top width rows cells ≡ whole → (items ++ colours_in row) ++ cells_from_top width below cells ≡ whole
+cells_written items cells row whole width rows below next is_row left =
+    append_assoc items (colours_in row) (cells_from_top width below cells)
+    ∙ ap (λ (cells_of_row : List Cell). items ++ (colours_in cells_of_row ++ cells_from_top width below cells)) is_row
+    ∙ ap (λ (n : ℕ). items ++ cells_from_top width n cells) (sym next)
+    ∙ left
 
-fours_of_others : (pixel : List ℕ) (pixels : List (List ℕ)) → Fours (pixel ∷ pixels) → Fours pixels
-fours_of_others pixel pixels fours i below = fours (suc i) (omega arith)
-
-fours_of_later : (n : ℕ) (pixels : List (List ℕ)) → Fours pixels → Fours (drop n pixels)
-fours_of_later zero pixels fours = fours
-fours_of_later (suc n) [] fours = fours
-fours_of_later (suc n) (pixel ∷ pixels) fours = fours_of_later n pixels (fours_of_others pixel pixels fours)
-
--- four more
-four_more : (n : ℕ) → suc n * 4 ≡ suc (suc (suc (suc (n * 4))))
-four_more n = omega arith
-
-four_behind : (pixel : List ℕ) (n : ℕ) → length pixel ≡ 4 → suc n * 4 ≡ length pixel + n * 4
-four_behind pixel n four = omega arith
-
--- the bytes of later pixels
-drop-concat : (n : ℕ) (pixels : List (List ℕ)) → Fours pixels → drop (n * 4) (concat pixels) ≡ concat (drop n pixels)
-drop-concat zero pixels fours = refl
-drop-concat (suc n) [] fours = rw (four_more n) refl
-drop-concat (suc n) (pixel ∷ pixels) fours =
-    ap (λ (m : ℕ). drop m (pixel ++ concat pixels)) (four_behind pixel n (fours 0 (omega arith)))
-    ∙ drop-append-add pixel (concat pixels) (n * 4)
-    ∙ drop-concat n pixels (fours_of_others pixel pixels fours)
-
--- the bytes of the first pixels
-take-concat : (n : ℕ) (pixels : List (List ℕ)) → Fours pixels → take (n * 4) (concat pixels) ≡ concat (take n pixels)
-take-concat zero pixels fours = refl
-take-concat (suc n) [] fours = rw (four_more n) refl
-take-concat (suc n) (pixel ∷ pixels) fours =
-    ap (λ (m : ℕ). take m (pixel ++ concat pixels)) (four_behind pixel n (fours 0 (omega arith)))
-    ∙ take-append-add pixel (concat pixels) (n * 4)
-    ∙ ap (λ (bytes : List ℕ). pixel ++ bytes) (take-concat n pixels (fours_of_others pixel pixels fours))
-
--- a row of pixels has the bytes of a row
-pub row_of-concat : (width row : ℕ) (pixels : List (List ℕ)) → Fours pixels → row_of width row (concat pixels) ≡ concat (take width (drop (row * width) pixels))
-unfolding row_of
-row_of-concat width row pixels fours =
-    ap (λ (bytes : List ℕ). take (width * 4) bytes) (drop-concat (row * width) pixels fours)
-    ∙ take-concat width (drop (row * width) pixels) (fours_of_later (row * width) pixels fours)
+-- three bytes a cell are left for the rows that are left
+pub cells_fit : (items width rows below room : ℕ) → rows ≡ suc below → items + 3 * (width * rows) ≡ room → items + 3 * width + 3 * (width * below) ≡ room
+cells_fit items width rows below room next left =
+    let more = mul-suc width below in
+    let same : width * rows ≡ width * suc below = ap (λ (n : ℕ). width * n) next in
+    omega (arith, more, same, left)

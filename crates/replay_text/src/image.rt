@@ -1,10 +1,10 @@
 //! Images in the form PPM with the magic P6.
 
 ghost use Rattle.std.specs.Prelude.{◌≡◌, ◌+◌, ◌*◌, ◌≤◌, ◌<◌, ◌++◌, length, string_bytes, IfOk};
-ghost use Rattle.std.specs.List.{concat};
 ghost use Rattle.gl_memory.specs.Room.{RoomView};
-ghost use Rattle.replay_text.specs.Ppm.{colours_of, ppm_head, ppm_of, row_of};
+ghost use Rattle.replay_text.specs.Ppm.{cells_of, colours_in, colours_of, ppm_head, ppm_of, ppm_of_cells, row_of};
 
+use fragment_ops::Cell;
 use gl_memory::Octets;
 use std::alloc::{AllocError as NoMemory, Global};
 
@@ -23,25 +23,22 @@ pub fn ppm(alloc: Global, width: u32, height: u32, pixels: &[u8]) -> Result<Octe
     Ok(image)
 }
 
-/// The image of pixels, the first row as the bottom one, with sides of 1 to 256 pixels, or NoMemory; own.
-#[tactic(auto, unfolding(crate::specs::Ppm::ppm_of))]
-pub fn ppm_of_pixels(
+/// The image of the cells of a frame, the first row as the bottom one, with sides of 1 to 256 pixels, or NoMemory; own.
+#[tactic(auto, unfolding(crate::specs::Ppm::ppm_of_cells))]
+pub fn ppm_of_cells(
     alloc: Global,
     width: u32,
     height: u32,
-    pixels: &[[u8; 4]],
+    cells: &[Cell],
 ) -> Result<Octets, NoMemory>
     requires width { (1 ≤ width) × (width ≤ 256) }
     requires height { (1 ≤ height) × (height ≤ 256) }
-    requires pixels { length pixels.now ≡ width * height }
-    ensures { IfOk result (λ image. image.items ≡ ppm_of width height (concat pixels.now)) }
+    requires cells { length cells.now ≡ width * height }
+    ensures { IfOk result (λ image. image.items ≡ ppm_of_cells width height cells.now) }
 {
     let mut image = begun(alloc, width, height)?;
     'rows: for row in (0..height).rev() {
-        put_pixels(
-            &mut image,
-            pixel_row_in(pixels, width as usize, row as usize),
-        );
+        put_cells(&mut image, cells_of(cells, width as usize, row as usize));
     }
     Ok(image)
 }
@@ -80,14 +77,16 @@ fn row_in(bytes: &[u8], width: usize, row: usize) -> &[u8]
     bytes.split_at(row * width * 4).1.split_at(width * 4).0
 }
 
-/// The pixels of a row, counted from the bottom.
-fn pixel_row_in(pixels: &[[u8; 4]], width: usize, row: usize) -> &[[u8; 4]]
+/// The cells of a row, counted from the bottom.
+#[tactic(auto, unfolding(crate::specs::Ppm::cells_of))]
+fn cells_of(cells: &[Cell], width: usize, row: usize) -> &[Cell]
     requires width { width ≤ 256 }
     requires row { row < 256 }
-    requires inside { (row + 1) * width ≤ length pixels.now }
-    ensures { concat result.now ≡ row_of width row (concat pixels.now) }
+    requires inside { (row + 1) * width ≤ length cells.now }
+    ensures row { result.now ≡ cells_of width row cells.now }
+    ensures long { length result.now ≡ width }
 {
-    pixels.split_at(row * width).1.split_at(width).0
+    cells.split_at(row * width).1.split_at(width).0
 }
 
 /// Appends bytes.
@@ -114,15 +113,25 @@ fn put_colours(image: &mut Octets, bytes: &[u8])
     }
 }
 
-/// Appends red, green and blue of pixels.
-fn put_pixels(image: &mut Octets, pixels: &[[u8; 4]])
-    requires room { length image.old.items + length (colours_of (concat pixels.now))
-        ≤ image.old.room }
-    ensures { image.new ≡ record image.old {
-      items = image.old.items ++ colours_of (concat pixels.now);
-    } }
+/// Appends red, green and blue of cells.
+fn put_cells(image: &mut Octets, cells: &[Cell])
+    requires room { length image.old.items + 3 * length cells.now ≤ image.old.room }
+    ensures put { image.new ≡ record image.old { items = image.old.items ++ colours_in cells.now } }
+    ensures long { length image.new.items ≡ length image.old.items + 3 * length cells.now }
 {
-    for pixel in pixels {
-        put_colours(image, pixel.as_slice());
+    for cell in cells {
+        put_colour(image, cell.colour);
     }
+}
+
+/// Appends red, green and blue of a colour.
+fn put_colour(image: &mut Octets, colour: [u8; 4])
+    requires room { length image.old.items + 3 ≤ image.old.room }
+    ensures put { image.new ≡ record image.old { items = image.old.items ++ colours_of colour } }
+    ensures long { length image.new.items ≡ length image.old.items + 3 }
+{
+    let [red, green, blue, _] = colour;
+    image.push(red);
+    image.push(green);
+    image.push(blue);
 }

@@ -9,7 +9,7 @@ mod text;
 mod words;
 
 pub use asked::Command;
-pub use image::{ppm, ppm_of_pixels};
+pub use image::{ppm, ppm_of_cells};
 pub use name::{frame_name, image_name};
 pub use status::{Status, exit_code};
 pub use text::Text;
