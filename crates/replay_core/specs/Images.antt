@@ -1,10 +1,9 @@
 -- The images of a script, each made of what was told of it; own.
 use Rattle.std.specs.Prelude.{◌≡◌, ℕ, ◌*◌, List, [], ◌∷◌, ◌++◌, length}
-use Rattle.std.specs.List.{concat, flat_map}
-use Rattle.gl_state.specs.Private.{AreSides}
-use Rattle.soft_driver.specs.Frame.{FrameView}
+use Rattle.std.specs.List.{flat_map}
+use Rattle.fragment_ops.specs.Frame.{AreSides, FrameView}
 use Rattle.replay_lines.specs.Results.{Answer, DoneView, Picture, Shown}
-use Rattle.replay_text.specs.Ppm.{frame_name, image_name, ppm_of}
+use Rattle.replay_text.specs.Ppm.{frame_name, image_name, ppm_of, ppm_of_cells}
 use Rattle.replay_core.specs.Direct.{end_of}
 use Rattle.replay_core.specs.Script.{Scripted}
 use Rattle.replay_core.specs.World.{File}
@@ -30,7 +29,7 @@ files_of told = flat_map (λ done. file_of done.shown) told
 
 -- the file of a context's frame; own
 unfoldable pub frame_file : ℕ → FrameView → File
-frame_file context frame = (frame_name context, ppm_of frame.width frame.height (concat frame.pixels))
+frame_file context frame = (frame_name context, ppm_of_cells frame.width frame.height frame.cells)
 
 -- the images of a script's context: those that its lines took, in order, and then its frame; own
 unfoldable pub images_of : ℕ → Scripted → List File

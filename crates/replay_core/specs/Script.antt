@@ -1,6 +1,6 @@
 -- A script as data for the direct machine: one context, and its lines; own.
 use Rattle.std.specs.Prelude.{◌≡◌, ℕ, ◌≤◌, List, [], ◌∷◌}
-use Rattle.gl_state.specs.Private.{AreSides}
+use Rattle.fragment_ops.specs.Frame.{AreSides}
 use Rattle.script_reader.specs.declared.script.ContextSpec.{ContextSpec}
 use Rattle.script_reader.specs.declared.script.Line.{Line}
 use Rattle.script_reader.specs.declared.script.Script.{Script}

@@ -9,7 +9,7 @@ use crate::image::ImageFile;
 use gl_outside::{OutError, Shelf, Sink, write_all};
 use replay_text::Status;
 
-/// Puts the images in order, and then writes the report.
+/// Puts the images in order, and then writes the report. Own.
 pub fn deliver<K: Sink, G: Shelf>(
     sink: &mut K,
     shelf: &mut G,

@@ -7,7 +7,7 @@ ghost use Rattle.replay_core.specs.Images.{file_of, files_of, frame_file, IsWhol
 
 use gl_memory::Octets;
 use replay_lines::{Results, What};
-use replay_text::{frame_name, image_name, ppm, ppm_of_pixels};
+use replay_text::{frame_name, image_name, ppm, ppm_of_cells};
 use soft_driver::Frame;
 use std::alloc::{AllocError as NoMemory, Global};
 use std::marker::Model;
@@ -89,6 +89,6 @@ pub fn frame_file(alloc: Global, context: u32, frame: &Frame) -> Result<ImageFil
     ensures { IfOk result (λ file. file ≡ frame_file context frame.now) }
 {
     let name = frame_name(alloc, context)?;
-    let bytes = ppm_of_pixels(alloc, frame.width(), frame.height(), frame.pixels())?;
+    let bytes = ppm_of_cells(alloc, frame.width(), frame.height(), frame.cells())?;
     Ok(ImageFile::new(name, bytes))
 }

@@ -2,7 +2,7 @@
 
 ghost use Rattle.std.specs.Prelude.{◌≡◌, ◌≤◌, ◌<◌, [], ◌∷◌, IfOk, OnOk};
 ghost use Rattle.std.specs.List.{All};
-ghost use Rattle.gl_state.specs.Private.{AreSides};
+ghost use Rattle.fragment_ops.specs.Frame.{AreSides};
 ghost use Rattle.script_reader.specs.Limits.{IsLine};
 ghost use Rattle.replay_lines.specs.Lines.{lines_in};
 ghost use Rattle.replay_core.specs.Direct.{end_of};

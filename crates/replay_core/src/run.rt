@@ -26,7 +26,7 @@ use soft_driver::Soft;
 use std::alloc::{AllocError as NoMemory, Global};
 use std::thread::Threads;
 
-/// What a run leaves to be put and written.
+/// What a run leaves to be put and written. Own.
 #[derive(Drop)]
 pub struct Output {
     pub images: Vec<ImageFile>,

@@ -33,7 +33,7 @@ const ENOUGH: usize = 8_388_609;
 const ONLY_NUMBER: u32 = 0;
 
 /// Replays the script in the source: puts its images on the shelf and writes its report to the sink. What each
-/// answer says is its clause; `see` is what the objects tell before the call, `seen` what they tell after it.
+/// answer says is its clause; `told` gives what the four objects tell, before the call and after it. Own.
 pub fn replay_alone<T: Threads + Sync, S: Source, K: Sink, G: Shelf, R: RailMaker<Soft>>(
     rt: &T,
     alloc: Global,
@@ -110,7 +110,7 @@ pub fn replay_alone<T: Threads + Sync, S: Source, K: Sink, G: Shelf, R: RailMake
 }
 
 /// Replays as [`replay_alone`] does, with the same answers, over a maker whose rails may wait: a part is split from it for the
-/// run, and joined to it again on every way out.
+/// run, and joined to it again on every way out. Own.
 pub fn replay<T: Threads + Sync, W: Wait, S: Source, K: Sink, G: Shelf, R: WaitMaker<Soft>>(
     rt: &T,
     wait: &W,
