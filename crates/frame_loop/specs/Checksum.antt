@@ -1,5 +1,6 @@
 -- A number by which frames can be told apart; own.
 use Rattle.std.specs.Prelude.{ℕ, ◌+◌, ◌*◌, ◌%◌, List, fold}
+use Rattle.fragment_ops.specs.declared.cell.Cell.{Cell}
 
 -- a checksum with a byte more; own. 4,294,967,291 is the largest prime below 2^32
 unfoldable pub with_byte : ℕ → ℕ → ℕ
@@ -9,6 +10,6 @@ with_byte sum byte = (sum * 65537 + byte + 1) % 4294967291
 abbrev pub with_pixel : ℕ → List ℕ → ℕ
 with_pixel sum pixel = fold with_byte sum pixel
 
--- the checksum of pixels; own
-abbrev pub checksum_of : List (List ℕ) → ℕ
-checksum_of pixels = fold with_pixel 0 pixels
+-- the checksum of the colours of cells; own
+abbrev pub checksum_of : List Cell → ℕ
+checksum_of cells = fold (λ sum cell. with_pixel sum cell.colour) 0 cells

@@ -10,5 +10,5 @@ use Rattle.frame_loop.specs.Work.{sum_of}
 abbrev pub shown_by : Asked → Shown
 shown_by asked = record {
   sum = sum_of asked.work asked.frames;
-  checksum = checksum_of (after_frames asked.asks asked.frames (first_own 0 256 256)).frame.pixels;
+  checksum = checksum_of (after_frames asked.asks asked.frames (first_own 0 256 256)).frame.cells;
 }

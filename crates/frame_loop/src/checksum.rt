@@ -3,13 +3,15 @@
 ghost use Rattle.std.specs.Prelude.{◌≡◌, ◌<◌};
 ghost use Rattle.frame_loop.specs.Checksum.{with_byte, with_pixel, checksum_of};
 
-/// The checksum of so many pixels: each byte counts, and where it stands.
-pub(crate) fn checksum_of(pixels: &[[u8; 4]]) -> u64
-    ensures { result ≡ checksum_of pixels.now }
+use fragment_ops::Cell;
+
+/// The checksum of the colours of so many cells: each byte counts, and where it stands.
+pub(crate) fn checksum_of(cells: &[Cell]) -> u64
+    ensures { result ≡ checksum_of cells.now }
 {
     let mut sum = 0;
-    for pixel in pixels {
-        sum = with_pixel(sum, *pixel);
+    for cell in cells {
+        sum = with_pixel(sum, cell.colour);
     }
     sum
 }

@@ -58,7 +58,7 @@ fn drawn_over<T: Threads + Sync, W: Wait, R: WaitRail<Soft>>(
     (drawn, rail)
 }
 
-/// Draws the frames over a rail of this maker, in batches of 1,024 slots of which 8 are on their way at once.
+/// Draws the frames over a rail of this maker, in batches of 1,024 slots of which 8 are on their way at once. Own.
 pub fn shown_over<T: Threads + Sync, W: Wait, M: WaitMaker<Soft>>(
     rt: &T,
     wait: &W,
@@ -84,6 +84,6 @@ pub fn shown_over<T: Threads + Sync, W: Wait, M: WaitMaker<Soft>>(
     let frame = soft.into_parts();
     Ok(Shown {
         sum,
-        checksum: checksum_of(frame.pixels()),
+        checksum: checksum_of(frame.cells()),
     })
 }
