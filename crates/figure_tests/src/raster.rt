@@ -5,8 +5,8 @@ ghost use Rattle.std.specs.Prelude.{◌^◌};
 ghost use Rattle.triangle_raster.specs.Vertex.{AreCorners, IsCorner, IsWithin};
 
 use std::process::Abort;
-use triangle_raster::laws::shared_edge_law;
-use triangle_raster::{Area, Fragment, Setup, Vertex, View, plain};
+use triangle_raster::laws::{area_law, range_law, shared_edge_law, sharing_law};
+use triangle_raster::{Area, Fragment, Setup, Spot, Vertex, View, plain};
 
 /// 1 in 16.16 fixed, and the greatest coordinate.
 const ONE: i32 = 65536;
@@ -226,13 +226,25 @@ fn depths_and_colours_are_those_of_the_reference(rt: HostRuntime) {
     ]);
     let setup = Setup::new(&corners, VIEW, AREA).expect(&rt, "the corners stand on no line");
     assert!(rt; setup.counter_clockwise());
+    area_law(&setup, 1);
+    range_law(&setup, 1);
+    sharing_law();
     let mut seen = 0;
     for y in 0..4 {
         let mut row = setup.row(y);
         for _ in 0..4 {
+            let spot = row.look();
             if let Some(fragment) = row.next() {
                 assert!(rt; seen < 10);
                 let wanted = &wanted[seen];
+                assert_eq!(rt;
+                    spot,
+                    Some(Spot {
+                        x: wanted.x,
+                        y: wanted.y,
+                        depth: wanted.depth
+                    })
+                );
                 assert_eq!(rt;
                     (fragment.x, fragment.y, fragment.depth),
                     (wanted.x, wanted.y, wanted.depth)
@@ -245,6 +257,48 @@ fn depths_and_colours_are_those_of_the_reference(rt: HostRuntime) {
         }
     }
     assert_eq!(rt; seen, 10);
+}
+
+// The third row of that picture from below has three fragments.
+#[test]
+fn a_skipped_fragment_is_left_out(rt: HostRuntime) {
+    let corners = triangle([
+        [-ONE, -ONE, -ONE, ONE],
+        [2 * ONE, -ONE, 0, 2 * ONE],
+        [-ONE, 3 * ONE, 3 * ONE, 2 * ONE],
+    ]);
+    let setup = Setup::new(&corners, VIEW, AREA).expect(&rt, "the corners stand on no line");
+    let mut row = setup.row(2);
+    row.skip();
+    assert_eq!(rt; row.next(), plain::pixel(&corners, VIEW, 1, 2));
+    row.skip();
+    assert_eq!(rt; row.look(), None);
+    row.skip();
+    assert_eq!(rt; row.next(), None);
+}
+
+// The depth of corners that stand level is 65535 * (z + w) / (2 * w).
+#[test]
+fn level_corners_leave_one_depth(rt: HostRuntime) {
+    let half = ONE / 2;
+    let corners = triangle([
+        [-ONE, -ONE, half, ONE],
+        [3 * ONE, -ONE, half, ONE],
+        [-ONE, 3 * ONE, half, ONE],
+    ]);
+    let setup = Setup::new(&corners, VIEW, AREA).expect(&rt, "the corners stand on no line");
+    let mut seen = 0u32;
+    for y in 0..4 {
+        let mut row = setup.row(y);
+        for _ in 0..4 {
+            if let Some(fragment) = row.next() {
+                assert_eq!(rt; fragment.depth, 49151);
+                assert_eq!(rt; fragment.values[3], ONE);
+                seen = seen.wrapping_add(1);
+            }
+        }
+    }
+    assert_eq!(rt; seen, 16);
 }
 
 /// Adds one for each fragment of a triangle, and says how many there were.

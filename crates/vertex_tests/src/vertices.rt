@@ -116,6 +116,12 @@ fn elements_of_each_type_are_read(rt: HostRuntime) -> Result<(), Fail> {
         0,
         [0, -65_536, 65_536, 0],
     );
+    // in a buffer there are zeros, and missing parts
+    let in_a_buffer = ArrayState {
+        buffer: 1,
+        ..array_of(3, 0x1400, 0, 0)
+    };
+    stands(&rt, &memory, in_a_buffer, 0, [0, 0, 0, 65_536]);
     // past the end there are zeros
     stands(&rt, &memory, array_of(4, 0x140C, 0, 60), 1, [0, 0, 0, 0]);
     stands(

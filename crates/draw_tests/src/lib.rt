@@ -1,0 +1,5 @@
+//! Tests of draws.
+#![tactic(auto)]
+
+#[cfg(test)]
+mod draws;
