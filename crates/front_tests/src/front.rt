@@ -9,6 +9,7 @@ ghost use Rattle.gl_front.specs.Front.{AllHaveRoom, CanRise, no_counts};
 ghost use Rattle.gl_front.specs.Taking.{KeepsCount};
 
 mod both;
+mod captures;
 mod doubles;
 mod gets;
 mod waits;
@@ -49,6 +50,7 @@ fn rail_of_sixteen<M: RailMaker<Limited>>(
         recorder: Recorder::new(alloc),
         room,
         asked: 0,
+        seen: [0; 16],
     };
     let Ok(rail) = maker.launch(alloc, 0, driver, 16, 4) else {
         return Err(AllocError);

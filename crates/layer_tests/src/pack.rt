@@ -39,6 +39,16 @@ fn each_call_of_the_table_reads_back(rt: HostRuntime) -> Result<(), Fail> {
             ]
             .as_slice(),
         ),
+        (
+            Call::ColorMask {
+                red: true,
+                green: false,
+                blue: false,
+                alpha: true,
+            },
+            [0x5_000d, 1, 0, 0, 1].as_slice(),
+        ),
+        (Call::DepthMask { flag: false }, [0x2_0013, 0].as_slice()),
         (Call::Finish, [0x1_001b].as_slice()),
         (Call::Flush, [0x1_001c].as_slice()),
         (

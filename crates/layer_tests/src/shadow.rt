@@ -125,19 +125,115 @@ fn each_kind_of_call_has_its_class(rt: HostRuntime) -> Result<(), Fail> {
     Ok(())
 }
 
-// The spelling of Viewport has a header and four arguments.
+// A spelling has a header and a slot for each argument, and two slots and one for each eight bytes of a piece. Each vertex
+// here has 16 bytes, and memory ends within the fifth.
 #[test]
 fn a_call_longer_than_a_batch_waits(rt: HostRuntime) -> Result<(), Fail> {
-    let memory = ClientMemory::new(rt.alloc(), 0)?;
-    let call = Call::Viewport {
-        x: 0,
-        y: 0,
-        width: 1,
-        height: 1,
-    };
-    let shadow = Shadow::new();
-    assert_eq!(rt; shadow.class(&call, &memory, 5), Class::Defer);
-    assert_eq!(rt; shadow.class(&call, &memory, 4), Class::Sync);
+    let memory = ClientMemory::new(rt.alloc(), 68)?;
+    let mut shadow = Shadow::new();
+    let rows = [
+        ("Viewport", [0, 0, 1, 1].as_slice(), 5),
+        ("DrawArrays", [4, 0, 3].as_slice(), 4),
+        ("EnableClientState", [0x8074].as_slice(), 2),
+        ("DrawArrays", [4, 0, 3].as_slice(), 12),
+        ("DrawArrays", [4, 0, 4].as_slice(), 14),
+        ("DrawArrays", [4, 0, 5].as_slice(), 15),
+        ("DrawArrays", [4, 0, 65536].as_slice(), 15),
+        ("DrawArrays", [4, 0, 65537].as_slice(), 4),
+        ("LoadMatrixx", [4].as_slice(), 12),
+        ("MultMatrixx", [20].as_slice(), 10),
+        ("MultMatrixx", [68].as_slice(), 2),
+    ];
+    for (name, numbers, slots) in rows {
+        let Some(call) = call_named(name, numbers) else {
+            return Err(Fail::new("no such call"));
+        };
+        let look = shadow.look(&call, &memory, slots);
+        assert_eq!(rt; look.becomes.class(), Class::Defer);
+        assert_eq!(rt; shadow.class(&call, &memory, slots - 1), Class::Sync);
+        shadow.note(&call, &memory, look.fault);
+    }
+    Ok(())
+}
+
+/// The starts and lengths of the pieces with which a call is put off, if it is.
+fn places_of(becomes: &Becomes) -> [Option<(u64, u64)>; 5] {
+    let mut places = [None; 5];
+    if let Becomes::Defer { pieces, .. } = becomes {
+        for at in 0..pieces.len().min(5) {
+            let piece = pieces.at(at);
+            places[at] = Some((piece.start, piece.len));
+        }
+    }
+    places
+}
+
+// Another program spells each of these calls, in this order, with these pieces. Memory ends at 200; the draws without a piece
+// after the first of colours are past it, of no elements, or have an error.
+#[test]
+fn a_draw_and_a_matrix_are_put_off_with_their_pieces(rt: HostRuntime) -> Result<(), Fail> {
+    let memory = ClientMemory::new(rt.alloc(), 200)?;
+    let mut shadow = Shadow::new();
+    let rows = [
+        ("DrawArrays", [4, 0, 3].as_slice(), [].as_slice()),
+        (
+            "VertexPointer",
+            [2, 0x1400, 0, 16].as_slice(),
+            [].as_slice(),
+        ),
+        ("EnableClientState", [0x8074].as_slice(), [].as_slice()),
+        ("DrawArrays", [4, 0, 3].as_slice(), [(16, 6)].as_slice()),
+        (
+            "ColorPointer",
+            [4, 0x1401, 0, 190].as_slice(),
+            [].as_slice(),
+        ),
+        ("EnableClientState", [0x8076].as_slice(), [].as_slice()),
+        (
+            "DrawArrays",
+            [4, 1, 3].as_slice(),
+            [(18, 6), (194, 6)].as_slice(),
+        ),
+        (
+            "DrawArrays",
+            [0, 1, 3].as_slice(),
+            [(18, 6), (194, 6)].as_slice(),
+        ),
+        ("DrawArrays", [4, 91, 3].as_slice(), [(198, 2)].as_slice()),
+        ("DrawArrays", [4, 92, 3].as_slice(), [].as_slice()),
+        ("DrawArrays", [4, 0, 0].as_slice(), [].as_slice()),
+        ("DrawArrays", [4, 0, -1].as_slice(), [].as_slice()),
+        ("DrawArrays", [4, -1, 3].as_slice(), [].as_slice()),
+        (
+            "DrawArrays",
+            [4, 0, 65536].as_slice(),
+            [(16, 184), (190, 10)].as_slice(),
+        ),
+        ("DrawArrays", [4, 0, 65537].as_slice(), [].as_slice()),
+        ("DrawArrays", [7, 0, 3].as_slice(), [].as_slice()),
+        ("LoadMatrixx", [100].as_slice(), [(100, 64)].as_slice()),
+        ("MultMatrixx", [150].as_slice(), [(150, 50)].as_slice()),
+        ("LoadMatrixx", [199].as_slice(), [(199, 1)].as_slice()),
+        ("MultMatrixx", [200].as_slice(), [].as_slice()),
+        ("LoadMatrixx", [4294967295].as_slice(), [].as_slice()),
+        ("DisableClientState", [0x8074].as_slice(), [].as_slice()),
+        ("DrawArrays", [4, 0, 3].as_slice(), [].as_slice()),
+        ("EnableClientState", [0x8074].as_slice(), [].as_slice()),
+        ("DisableClientState", [0x8076].as_slice(), [].as_slice()),
+        ("DrawArrays", [6, 2, 1].as_slice(), [(20, 2)].as_slice()),
+    ];
+    for (name, numbers, pieces) in rows {
+        let Some(call) = call_named(name, numbers) else {
+            return Err(Fail::new("no such call"));
+        };
+        let look = shadow.look(&call, &memory, 1024);
+        assert_eq!(rt; look.becomes.class(), Class::Defer);
+        let places = places_of(&look.becomes);
+        for at in 0..5 {
+            assert_eq!(rt; places[at], pieces.get(at).copied());
+        }
+        shadow.note(&call, &memory, look.fault);
+    }
     Ok(())
 }
 

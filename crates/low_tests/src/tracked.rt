@@ -106,6 +106,66 @@ VertexPointer 2 BYTE -2147483648 0 : 1281
 Viewport -5 -5 -1 0 : 1281
 Viewport -5 -5 0 -2147483648 : 1281
 Viewport -5 -5 0 0 : none
+AlphaFuncx NEVER 0 : none
+AlphaFuncx 511 0 : 1280
+AlphaFuncx 520 0 : 1280
+BlendFunc ZERO ONE_MINUS_DST_ALPHA : none
+BlendFunc SRC_ALPHA_SATURATE ONE : none
+BlendFunc DST_COLOR SRC_COLOR : none
+BlendFunc ONE_MINUS_DST_COLOR ONE_MINUS_SRC_COLOR : none
+BlendFunc SRC_COLOR ZERO : 1280
+BlendFunc ONE_MINUS_SRC_COLOR ZERO : 1280
+BlendFunc ONE DST_COLOR : 1280
+BlendFunc ONE ONE_MINUS_DST_COLOR : 1280
+BlendFunc ONE SRC_ALPHA_SATURATE : 1280
+BlendFunc 2 ZERO : 1280
+ClearDepthx -2147483648 : none
+Color4x -1 2147483647 0 65537 : none
+ColorMask 0 1 0 1 : none
+CullFace FRONT : none
+CullFace FRONT_AND_BACK : none
+CullFace CW : 1280
+CullFace 1030 : 1280
+DepthFunc LEQUAL : none
+DepthFunc 512 : none
+DepthFunc 520 : 1280
+DepthFunc 0 : 1280
+DepthMask 1 : none
+DepthRangex 65537 -1 : none
+Disable TEXTURE_2D : none
+Disable VERTEX_ARRAY : 1280
+Disable 3008 : none
+Enable CULL_FACE : none
+Enable SCISSOR_TEST : none
+Enable 2960 : 1280
+Enable TEXTURE_COORD_ARRAY : 1280
+FrontFace CW : none
+FrontFace FRONT : 1280
+FrontFace 2306 : 1280
+MultiTexCoord4x TEXTURE1 1 2 3 4 : none
+MultiTexCoord4x 33986 1 2 3 4 : 1280
+MultiTexCoord4x 33983 1 2 3 4 : 1280
+Normal3x -1 0 1 : none
+Scissor -5 -5 0 0 : none
+Scissor -2147483648 2147483647 2147483647 2147483647 : none
+Scissor 0 0 -1 0 : 1281
+Scissor 0 0 0 -2147483648 : 1281
+ShadeModel FLAT : none
+ShadeModel 7423 : 1280
+ShadeModel 7426 : 1280
+DrawArrays POINTS 0 0 : none
+DrawArrays TRIANGLES 0 65536 : none
+DrawArrays TRIANGLE_FAN 2147483647 65536 : none
+DrawArrays 7 0 0 : 1280
+DrawArrays 7 -1 -1 : 1280
+DrawArrays 4294967295 0 3 : 1280
+DrawArrays TRIANGLES -1 0 : 1281
+DrawArrays TRIANGLES -2147483648 3 : 1281
+DrawArrays TRIANGLES 0 -1 : 1281
+DrawArrays TRIANGLES 0 65537 : 1281
+DrawArrays TRIANGLES 0 2147483647 : 1281
+LoadMatrixx 4294967295 : none
+MultMatrixx 4294967295 : none
 ";
 
 // INVALID_ENUM is 1280, INVALID_VALUE 1281, STACK_UNDERFLOW 1284. The bits of depth, stencil and colour are 256, 1024 and

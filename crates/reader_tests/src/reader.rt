@@ -18,6 +18,7 @@ const READ: &str = "\
 4 4 0, 3: 0 ClearColorx 65536 0 0 65536, 4: 0 Clear 16384 : $0 ClearColorx 65536 0 0 65536;0 Clear COLOR_BUFFER_BIT;end;
 4 4 0, 5: 0 ClearColorx 65536 0 0 65536, 6: 0 Clear 16384 : # red^;^;glscript 1^;context 0 0x4 4 -0^;00 ClearColorx 0x10000 ZERO 0 65536^;0 Clear 16384^;end
 4 4 0, 4: 0 ClearColorx 65536 0 0 65536, 5: 0 Clear 16384 :  glscript\t1;\t#;context  0 4 0000000004 0;0 ClearColorx 65536 0 0 0x00010000 ;0\tClear 0x4000;end;#;
+4 4 0, 3: 0 ColorMask 0 1 1 1, 4: 0 DepthMask 0 : $0 ColorMask 0 1 255 0x7F;0 DepthMask -0;end;
 4 4 0, 3: 0 mem 0: 9 : $0 mem 0 09;end;
 4 4 0, 3: 0 mem 16: 160 191 : $00 mem 0x10 a0Bf\t;end;
 4 4 0, 3: 0 mem 4294967295: 255 255 0 : $0 mem 4294967295 FFff00;end;
@@ -128,6 +129,9 @@ line 3: BadNumber : glscript 1;context 0 1 1 0;0 mem 0 0x00;end;
 line 3: BadNumber : glscript 1;context 0 1 1 0;0 mem 0 0g;end;
 line 3: BadNumber : glscript 1;context 0 1 1 0;0 mem 0 @0;end;
 read : glscript 1;context 0 1 1 0;0 image a 256 256 4294967295;end;
+read : glscript 1;context 0 1 1 0;0 ColorMask 0 1 255 0x7F;end;
+line 3: OutOfRange : glscript 1;context 0 1 1 0;0 ColorMask 0 1 256 0;end;
+line 3: OutOfRange : glscript 1;context 0 1 1 0;0 DepthMask -1;end;
 line 3: OutOfRange : glscript 1;context 0 1 1 0;0 image a 257 1 0;end;
 line 3: OutOfRange : glscript 1;context 0 1 1 0;0 image a 1 257 0;end;
 line 3: OutOfRange : glscript 1;context 0 1 1 0;0 image a 0 1 0;end;
@@ -147,14 +151,27 @@ fn numbers_hold_at_their_edges(rt: HostRuntime) -> Result<(), Fail> {
 // The numbers of arguments are those of the header `GLES/gl.h`.
 const ARGUMENTS: &str = "\
 ActiveTexture 1
+AlphaFuncx 2
+BlendFunc 2
 Clear 1
 ClearColorx 4
+ClearDepthx 1
 ClientActiveTexture 1
+Color4x 4
+ColorMask 4
 ColorPointer 4
+CullFace 1
+DepthFunc 1
+DepthMask 1
+DepthRangex 2
+Disable 1
 DisableClientState 1
+DrawArrays 3
+Enable 1
 EnableClientState 1
 Finish 0
 Flush 0
+FrontFace 1
 Frustumx 6
 GetError 0
 GetFixedv 2
@@ -162,7 +179,11 @@ GetIntegerv 2
 GetPointerv 2
 IsEnabled 1
 LoadIdentity 0
+LoadMatrixx 1
 MatrixMode 1
+MultMatrixx 1
+MultiTexCoord4x 5
+Normal3x 3
 NormalPointer 3
 Orthox 6
 PixelStorei 2
@@ -171,6 +192,8 @@ PushMatrix 0
 ReadPixels 7
 Rotatex 4
 Scalex 3
+Scissor 4
+ShadeModel 1
 TexCoordPointer 4
 Translatex 3
 VertexPointer 4

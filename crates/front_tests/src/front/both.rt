@@ -37,6 +37,7 @@ fn waiting_rail<T: Threads + Sync, W: Wait, P: WaitPart<Limited>>(
         recorder: Recorder::new(alloc),
         room,
         asked: 0,
+        seen: [0; 16],
     };
     let Ok(rail) = part.launch(rt, wait, alloc, driver, 16, 4) else {
         return Err(AllocError);

@@ -14,12 +14,23 @@ use std::sync::Wait;
 use std::thread::Threads;
 
 /// A recorder that is refused memory where it met as many calls as it has room for. It counts what it
-/// was asked: the gets of tracked state too, which a recorder doesn't keep.
+/// was asked: the gets of tracked state too, which a recorder doesn't keep. It keeps what it saw of the memory of the last
+/// call that it met: the bytes of the first 16 places.
 #[derive(Drop)]
 pub(super) struct Limited {
     pub(super) recorder: Recorder,
     pub(super) room: usize,
     pub(super) asked: u64,
+    pub(super) seen: [u8; 16],
+}
+
+/// The bytes of a memory at its first 16 places.
+fn first_bytes<M: Memory>(memory: &M) -> [u8; 16] {
+    let mut bytes = [0; 16];
+    for at in 0..16 {
+        bytes[at] = memory.byte(at as u64);
+    }
+    bytes
 }
 
 impl Model for Limited {
@@ -49,6 +60,7 @@ impl Driver for Limited {
         if self.recorder.calls().len() >= self.room {
             return Err(AllocError);
         }
+        self.seen = first_bytes(memory);
         Driver::call(&mut self.recorder, rt, call, memory)
     }
 }

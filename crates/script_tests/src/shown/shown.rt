@@ -1,7 +1,8 @@
 //! What is printed and put, byte by byte.
 
+use fragment_ops::Cell;
 use gl_words::Call;
-use replay_text::{Status, Text, exit_code, frame_name, image_name, ppm, ppm_of_pixels};
+use replay_text::{Status, Text, exit_code, frame_name, image_name, ppm, ppm_of_cells};
 use script_reader::{Limit, Name, ScriptError, ScriptFault};
 use std::test::Fail;
 
@@ -26,6 +27,11 @@ fn each_call_appends_one_line(rt: HostRuntime) -> Result<(), Fail> {
     Ok(())
 }
 
+/// A cell of a colour.
+fn cell(colour: [u8; 4]) -> Cell {
+    Cell { colour, depth: 0 }
+}
+
 // PPM has the highest row first.
 #[test]
 fn an_image_has_its_rows_from_the_top(rt: HostRuntime) -> Result<(), Fail> {
@@ -40,7 +46,7 @@ fn an_image_has_its_rows_from_the_top(rt: HostRuntime) -> Result<(), Fail> {
         high.as_slice(),
         b"P6\n1 2\n255\n\x05\x06\x07\x01\x02\x03".as_slice()
     );
-    let image = ppm_of_pixels(rt.alloc(), 1, 2, &[[1, 2, 3, 4], [5, 6, 7, 8]])?;
+    let image = ppm_of_cells(rt.alloc(), 1, 2, &[cell([1, 2, 3, 4]), cell([5, 6, 7, 8])])?;
     assert_eq!(rt;
         image.as_slice(),
         b"P6\n1 2\n255\n\x05\x06\x07\x01\x02\x03".as_slice()
