@@ -4,6 +4,8 @@
 #[cfg(test)]
 mod soft;
 #[cfg(test)]
+mod soft_draw;
+#[cfg(test)]
 mod soft_read;
 #[cfg(test)]
 mod state;

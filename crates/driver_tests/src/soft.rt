@@ -83,14 +83,27 @@ fn the_laws_hold_of_both_drivers(rt: HostRuntime) -> Result<(), Fail> {
 /// A call of each kind in the order of their numbers, each without an error, and the number that it replies, or -1.
 const KINDS: &str = "\
 ActiveTexture 33985 : -1
+AlphaFuncx 519 0 : -1
+BlendFunc 770 771 : -1
 Clear 16384 : -1
 ClearColorx 65536 0 0 65536 : -1
+ClearDepthx 65536 : -1
 ClientActiveTexture 33985 : -1
+Color4x 65536 0 0 65536 : -1
+ColorMask 1 1 1 1 : -1
 ColorPointer 4 5121 0 0 : -1
+CullFace 1029 : -1
+DepthFunc 515 : -1
+DepthMask 1 : -1
+DepthRangex 0 65536 : -1
+Disable 2884 : -1
 DisableClientState 32884 : -1
+DrawArrays 4 0 0 : -1
+Enable 2929 : -1
 EnableClientState 32884 : -1
 Finish : -1
 Flush : -1
+FrontFace 2305 : -1
 Frustumx -65536 65536 -65536 65536 65536 131072 : -1
 GetError : 0
 GetFixedv 2982 0 : -1
@@ -98,7 +111,11 @@ GetIntegerv 2976 0 : 5888
 GetPointerv 32910 0 : 0
 IsEnabled 32884 : 1
 LoadIdentity : -1
+LoadMatrixx 0 : -1
 MatrixMode 5888 : -1
+MultMatrixx 0 : -1
+MultiTexCoord4x 33985 0 0 0 65536 : -1
+Normal3x 0 0 65536 : -1
 NormalPointer 5120 0 0 : -1
 Orthox -65536 65536 -65536 65536 -65536 65536 : -1
 PixelStorei 3333 1 : -1
@@ -107,6 +124,8 @@ PushMatrix : -1
 ReadPixels 0 0 1 1 6408 5121 0 : -1
 Rotatex 5898240 0 0 65536 : -1
 Scalex 65536 65536 65536 : -1
+Scissor 0 0 2 2 : -1
+ShadeModel 7424 : -1
 TexCoordPointer 2 5122 0 0 : -1
 Translatex 1 2 3 : -1
 VertexPointer 3 5132 0 0 : -1
@@ -114,7 +133,7 @@ Viewport 0 0 2 2 : -1
 ";
 
 /// The call that a name and integers spell, if there is one.
-fn call_spelled(spelling: &str) -> Option<Call> {
+pub(crate) fn call_spelled(spelling: &str) -> Option<Call> {
     let mut words = spelling.split_whitespace();
     let shape = shape_of_name(words.next()?)?;
     let mut numbers = [0_i64; 9];
@@ -190,7 +209,10 @@ fn a_clear_gives_each_pixel_the_clear_colour(rt: HostRuntime) -> Result<(), Fail
         number(&rt, rt.alloc(), &mut soft, &Call::Clear { mask })?;
         let frame = soft.into_parts();
         assert_eq!(rt; (frame.width(), frame.height()), (3, 2));
-        assert_eq!(rt; frame.pixels(), [pixel; 6].as_slice());
+        assert_eq!(rt; frame.cells().len(), 6);
+        for cell in frame.cells() {
+            assert_eq!(rt; cell.colour, pixel);
+        }
     }
     Ok(())
 }
@@ -202,27 +224,45 @@ fn a_context_starts_at_each_side(rt: HostRuntime) -> Result<(), Fail> {
         let high = Soft::new(rt.alloc(), 0, 1, side)?.into_parts();
         assert_eq!(rt; (wide.width(), wide.height()), (side, 1));
         assert_eq!(rt; (high.width(), high.height()), (1, side));
-        assert_eq!(rt; wide.pixels().len(), side as usize);
-        assert_eq!(rt; high.pixels().len(), side as usize);
+        assert_eq!(rt; wide.cells().len(), side as usize);
+        assert_eq!(rt; high.cells().len(), side as usize);
     }
     let largest = Soft::new(rt.alloc(), 3, 256, 256)?.into_parts();
-    assert_eq!(rt; largest.pixels().len(), 65536);
+    assert_eq!(rt; largest.cells().len(), 65536);
     Ok(())
 }
 
-/// Calls that reply no list, those with an error among them.
+/// Calls that reply no list, those with an error among them. Two of the draws draw.
 const WITHOUT_LISTS: &str = "\
 ActiveTexture 33985
+AlphaFuncx 519 0
+BlendFunc 770 771
 Clear 16384
 Clear 17664
 Clear 1
 ClearColorx 65536 0 0 65536
+ClearDepthx 65536
 ClientActiveTexture 33985
+Color4x 65536 0 0 65536
+ColorMask 1 1 1 1
 ColorPointer 4 5121 0 0
+CullFace 1029
+DepthFunc 515
+DepthMask 1
+DepthRangex 0 65536
+Disable 2884
 DisableClientState 32884
+DrawArrays 4 0 3
+Enable 3042
+BlendFunc 1 1
 EnableClientState 32884
+VertexPointer 2 5120 0 0
+DrawArrays 4 0 3
+DrawArrays 7 0 3
+Enable 2929
 Finish
 Flush
+FrontFace 2305
 Frustumx -65536 65536 -65536 65536 65536 131072
 GetError
 GetFixedv 2931 0
@@ -233,7 +273,14 @@ GetPointerv 32910 0
 IsEnabled 3024
 IsEnabled 32884
 LoadIdentity
+LoadMatrixx 8
+MultMatrixx 8
+Color4x 0 65536 0 65536
+DrawArrays 4 0 3
 MatrixMode 5889
+MultMatrixx 0
+MultiTexCoord4x 33985 0 0 0 65536
+Normal3x 0 0 65536
 NormalPointer 5120 0 0
 Orthox -65536 65536 -65536 65536 -65536 65536
 PixelStorei 3333 1
@@ -244,18 +291,30 @@ PushMatrix
 ReadPixels 0 0 1 1 6407 5121 0
 Rotatex 5898240 0 0 65536
 Scalex 65536 65536 65536
+Scissor 0 0 2 2
+ShadeModel 7424
 TexCoordPointer 2 5122 0 0
 Translatex 1 2 3
 VertexPointer 3 5132 0 0
 Viewport 0 0 2 2
 ";
 
-// Memory is taken for the frame, and 64 times at the end. So nothing is refused with
-// `--fail-alloc 66`, unless a call takes some, be it only to give it back, or to do without it where
-// it is refused.
+/// Three corners of two bytes each, from 0, and the unit matrix, from 8.
+fn corners_and_a_matrix(alloc: Global) -> Result<ClientMemory, NoMemory> {
+    let mut memory = ClientMemory::new(alloc, 72)?;
+    memory.write(0, [0xFF, 0xFF, 1, 0xFF, 0xFF, 1].as_slice());
+    for at in [10_u64, 30, 50, 70] {
+        memory.write(at, [1].as_slice());
+    }
+    Ok(memory)
+}
+
+// Memory is taken for client memory, for the frame, and 63 times at the end. So nothing is refused
+// with `--fail-alloc 66`, unless a call takes some, be it only to give it back, or to do without it
+// where it is refused. The lower left pixel is the sum of two draws, in red and in green.
 #[test]
 fn only_a_list_takes_memory(rt: HostRuntime) -> Result<(), Fail> {
-    let memory = ClientMemory::new(rt.alloc(), 0)?;
+    let memory = corners_and_a_matrix(rt.alloc())?;
     let mut soft = Soft::new(rt.alloc(), 0, 2, 2)?;
     for spelling in WITHOUT_LISTS.lines() {
         let Some(call) = call_spelled(spelling) else {
@@ -264,7 +323,8 @@ fn only_a_list_takes_memory(rt: HostRuntime) -> Result<(), Fail> {
         let reply = soft.call(&rt, &call, &memory)?;
         assert!(rt; matches!(reply, Reply::Nothing | Reply::One(_)));
     }
-    for _ in 0..64 {
+    assert_eq!(rt; soft.into_parts().pixel(0, 0), [255, 255, 0, 255]);
+    for _ in 0..63 {
         vec![in rt.alloc(); 0_u8; 1]?;
     }
     Ok(())

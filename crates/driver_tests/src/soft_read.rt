@@ -1,6 +1,6 @@
 //! What ReadPixels replies. The values are those of another program.
 
-ghost use Rattle.gl_state.specs.Private.{AreSides};
+ghost use Rattle.fragment_ops.specs.Frame.{AreSides};
 
 use driver_trait::{Driver, Reply};
 use gl_memory::ClientMemory;

@@ -53,10 +53,19 @@ fn is_these(reply: &Reply, numbers: &[i64]) -> bool {
     }
 }
 
-/// Carries out calls on a new context of 5 by 3 pixels, in order. A row is a call and, behind a colon, the numbers of its
-/// reply. Gives the place of the first that is replied otherwise.
+/// Carries out calls as `first_wrong_on` does, on no memory.
 fn first_wrong(alloc: Global, rows: &str) -> Result<Option<usize>, NoMemory> {
     let memory = ClientMemory::new(alloc, 0)?;
+    first_wrong_on(alloc, &memory, rows)
+}
+
+/// Carries out calls on a new context of 5 by 3 pixels and a memory, in order. A row is a call and, behind a colon, the
+/// numbers of its reply. Gives the place of the first that is replied otherwise.
+fn first_wrong_on(
+    alloc: Global,
+    memory: &ClientMemory,
+    rows: &str,
+) -> Result<Option<usize>, NoMemory> {
     let mut private = Private::new(0, 5, 3);
     for (at, row) in rows.lines().enumerate() {
         let Some((spelling, reply)) = row.split_once(':') else {
@@ -72,7 +81,7 @@ fn first_wrong(alloc: Global, rows: &str) -> Result<Option<usize>, NoMemory> {
         ) {
             return Ok(Some(at));
         }
-        take_step(&mut private, &call, &memory);
+        take_step(&mut private, &call, memory);
     }
     Ok(None)
 }
@@ -181,6 +190,122 @@ fn a_get_tells_what_was_set_and_clamped(rt: HostRuntime) -> Result<(), Fail> {
     Ok(())
 }
 
+/// Settings that a get tells, 1280 being INVALID_ENUM. A call with an error sets nothing, and what isn't clamped is as set.
+const SETTINGS: &str = "\
+AlphaFuncx 516 65537 :
+AlphaFuncx 520 5 :
+BlendFunc 770 771 :
+BlendFunc 0 774 :
+ClearDepthx 32768 :
+Color4x -1 65537 2147483647 -2147483648 :
+CullFace 1028 :
+CullFace 2304 :
+DepthFunc 515 :
+DepthFunc 0 :
+FrontFace 2304 :
+FrontFace 1028 :
+Scissor -2147483648 7 0 2147483647 :
+Scissor 1 1 1 -1 :
+ShadeModel 7424 :
+ShadeModel 7426 :
+GetIntegerv 3009 0 : 516
+GetIntegerv 3041 0 : 770
+GetIntegerv 3040 0 : 771
+GetIntegerv 2885 0 : 1028
+GetIntegerv 2932 0 : 515
+GetIntegerv 2886 0 : 2304
+GetIntegerv 2900 0 : 7424
+GetFixedv 2931 0 : 32768
+GetFixedv 2816 0 : -1 65537 2147483647 -2147483648
+GetIntegerv 3088 0 : -2147483648 7 0 2147483647
+GetError : 1280
+ClearDepthx -1 :
+GetFixedv 2931 0 : 0
+ClearDepthx 65537 :
+GetFixedv 2931 0 : 65536
+";
+
+#[test]
+fn a_get_tells_each_setting_as_it_was_set(rt: HostRuntime) -> Result<(), Fail> {
+    assert_eq!(rt; first_wrong(rt.alloc(), SETTINGS)?, None);
+    Ok(())
+}
+
+/// The capabilities are 2884, 2929, 3008, 3024, 3042, 3089, and 3553 of the active unit; 33985 is TEXTURE1.
+const CAPABILITIES: &str = "\
+Enable 2884 :
+Disable 3024 :
+Enable 3553 :
+IsEnabled 2884 : 1
+IsEnabled 2929 : 0
+IsEnabled 3008 : 0
+IsEnabled 3024 : 0
+IsEnabled 3042 : 0
+IsEnabled 3089 : 0
+IsEnabled 3553 : 1
+ActiveTexture 33985 :
+IsEnabled 3553 : 0
+Enable 2929 :
+Enable 3008 :
+Enable 3042 :
+Enable 3089 :
+Enable 3553 :
+ActiveTexture 33984 :
+Disable 3553 :
+Disable 2884 :
+Enable 32884 :
+IsEnabled 2884 : 0
+IsEnabled 2929 : 1
+IsEnabled 3008 : 1
+IsEnabled 3024 : 0
+IsEnabled 3042 : 1
+IsEnabled 3089 : 1
+IsEnabled 3553 : 0
+IsEnabled 32884 : 0
+ActiveTexture 33985 :
+IsEnabled 3553 : 1
+GetError : 1280
+";
+
+#[test]
+fn a_capability_is_on_from_enable_to_disable(rt: HostRuntime) -> Result<(), Fail> {
+    assert_eq!(rt; first_wrong(rt.alloc(), CAPABILITIES)?, None);
+    Ok(())
+}
+
+/// Settings that no get tells.
+const UNTOLD: &str = "\
+AlphaFuncx 516 65537
+DepthRangex 65537 -1
+ColorMask 1 0 0 1
+DepthMask 0
+Normal3x -1 65537 3
+MultiTexCoord4x 33985 -1 2 65537 -2147483648
+MultiTexCoord4x 33986 1 1 1 1
+";
+
+// The depths and the reference are clamped to 0 to 1 (sections 2.10.1 and 4.1.4), and 33986 is no unit.
+#[test]
+fn what_no_get_tells_is_kept(rt: HostRuntime) -> Result<(), Fail> {
+    let memory = ClientMemory::new(rt.alloc(), 0)?;
+    let mut private = Private::new(0, 5, 3);
+    for spelling in UNTOLD.lines() {
+        let Some(call) = call_spelled(spelling) else {
+            return Err(Fail::new("no such call"));
+        };
+        take_step(&mut private, &call, &memory);
+    }
+    let settings = private.settings();
+    assert_eq!(rt; settings.alpha_reference, 65536);
+    assert_eq!(rt; settings.depth_range, [65536, 0]);
+    assert_eq!(rt; settings.colour_mask, [true, false, false, true]);
+    assert!(rt; !settings.depth_mask);
+    assert_eq!(rt; settings.normal, [-1, 65537, 3]);
+    assert_eq!(rt; settings.coordinates[0], [0, 0, 0, 65536]);
+    assert_eq!(rt; settings.coordinates[1], [-1, 2, 65537, -2147483648]);
+    Ok(())
+}
+
 /// Worked by hand, 65536 being 1: a translation by 1, 2 and 3, and then a scaling by 2, which leaves the last column, since
 /// it stands on the right; 5898240 is 90 degrees. The last row but one asks for the matrix of the other unit.
 const MATRICES: &str = "\
@@ -235,14 +360,83 @@ fn a_get_gives_a_matrix_by_columns(rt: HostRuntime) -> Result<(), Fail> {
     Ok(())
 }
 
+/// Writes the numbers of a matrix from a place on, of four bytes each, the lowest first.
+fn write_matrix(memory: &mut ClientMemory, place: u32, numbers: &[i32; 16]) {
+    for at in 0..16_usize {
+        memory.write(u64::from(place) + 4 * at as u64, &numbers[at].to_le_bytes());
+    }
+}
+
+const FIRST_MATRIX: [i32; 16] = [
+    32768,
+    65536,
+    98304,
+    -1,
+    163840,
+    196608,
+    229376,
+    262144,
+    294912,
+    327680,
+    360448,
+    393216,
+    425984,
+    458752,
+    491520,
+    -2147483648,
+];
+
+const SECOND_MATRIX: [i32; 16] = [
+    -40000, -39000, -36000, -31000, -24000, -15000, -4000, 9000, 24000, 41000, 60000, 81000,
+    104000, 129000, 156000, 185000,
+];
+
+/// The matrices lie at 4 and at 69 of 192 bytes; 5889 and 5890 are PROJECTION and TEXTURE, 33985 is TEXTURE1. What lies
+/// outside memory is read as zeros.
+const LOADED: &str = "\
+LoadMatrixx 4 :
+GetFixedv 2982 0 : 32768 65536 98304 -1 163840 196608 229376 262144 294912 327680 360448 393216 425984 458752 491520 -2147483648
+MultMatrixx 69 :
+GetFixedv 2982 0 : -481000 -554000 -627000 1015436000 -9000 -26000 -43000 -294996000 911000 1014000 1117000 -2147483648 2279000 2566000 2853000 -2147483648
+PushMatrix :
+LoadMatrixx 160 :
+GetFixedv 2982 0 : 0 0 0 0 0 0 0 0 0 0 0 0 0 0 0 0
+PopMatrix :
+GetFixedv 2982 0 : -481000 -554000 -627000 1015436000 -9000 -26000 -43000 -294996000 911000 1014000 1117000 -2147483648 2279000 2566000 2853000 -2147483648
+MatrixMode 5889 :
+MultMatrixx 4 :
+GetFixedv 2983 0 : 32768 65536 98304 -1 163840 196608 229376 262144 294912 327680 360448 393216 425984 458752 491520 -2147483648
+LoadMatrixx 4294967295 :
+GetFixedv 2983 0 : 0 0 0 0 0 0 0 0 0 0 0 0 0 0 0 0
+MatrixMode 5890 :
+ActiveTexture 33985 :
+LoadMatrixx 69 :
+GetFixedv 2984 0 : -40000 -39000 -36000 -31000 -24000 -15000 -4000 9000 24000 41000 60000 81000 104000 129000 156000 185000
+ActiveTexture 33984 :
+GetFixedv 2984 0 : 65536 0 0 0 0 65536 0 0 0 0 65536 0 0 0 0 65536
+GetError : 0
+";
+
+#[test]
+fn a_matrix_is_read_from_memory_by_columns(rt: HostRuntime) -> Result<(), Fail> {
+    let mut memory = ClientMemory::new(rt.alloc(), 192)?;
+    write_matrix(&mut memory, 4, &FIRST_MATRIX);
+    write_matrix(&mut memory, 69, &SECOND_MATRIX);
+    assert_eq!(rt; first_wrong_on(rt.alloc(), &memory, LOADED)?, None);
+    Ok(())
+}
+
 // INVALID_VALUE and STACK_UNDERFLOW, as section 4.3.1 and section 2.10.2 say. 2976 and 2978 are
 // MATRIX_MODE, which is tracked, and VIEWPORT, which isn't; so are 32884 and 3024, VERTEX_ARRAY and
 // DITHER.
 #[test]
 fn a_plan_has_all_that_is_found_of_a_call(rt: HostRuntime) -> Result<(), Fail> {
     let private = Private::new(0, 4, 4);
-    let rows: [(&str, Plan); 13] = [
+    let rows: [(&str, Plan); 16] = [
         ("Clear 16640", Plan::Draw),
+        ("DrawArrays 4 0 65536", Plan::Draw),
+        ("DrawArrays 4 0 65537", Plan::Fault(GlError::InvalidValue)),
+        ("LoadMatrixx 0", Plan::Local),
         ("ReadPixels 0 0 512 1 6408 5121 0", Plan::Read),
         (
             "ReadPixels 0 0 513 1 6408 5121 0",
