@@ -2,7 +2,9 @@
 
 ghost use Rattle.std.specs.Prelude.{◌<◌};
 
-use crate::told::{LARGE, MOST_BATCHES, MOST_LINES, PAST_LIMITS, REFUSED, RUNS, SMALL};
+use crate::drawn::DRAWN;
+use crate::limits::{LARGE, MOST_BATCHES, MOST_LINES, PAST_LIMITS, SMALL};
+use crate::told::{REFUSED, RUNS};
 use crate::ways::{Left, Outside, Ready, WAYS, Way, replay_over, wait_over};
 use batch_rail::{JournalMaker, RailKind};
 use gl_outside::MemoryShelf;
@@ -164,6 +166,42 @@ fn count_runs<T: Threads + Wait + Copy + Send + Sync + Abort + 'static>(
 fn each_script_has_its_report_and_its_images(rt: HostRuntime) -> Result<(), Fail> {
     for (way, runs) in WAYS.into_iter().zip([20, 20, 14, 14]) {
         assert_eq!(rt; count_runs(rt, rt.alloc(), way, RUNS)?, runs, "{way:?}");
+    }
+    Ok(())
+}
+
+/// Runs each of these scripts that draw in this way: by `direct` where that can be had, and with batches of each of the two
+/// sizes. Counts the runs.
+fn count_drawn<T: Threads + Wait + Copy + Send + Sync + Abort + 'static>(
+    rt: T,
+    alloc: Global,
+    way: Way,
+    scripts: &str,
+) -> Result<u32, Fail> {
+    let mut count = 0_u32;
+    for told in scripts.split('@') {
+        if !told.is_empty() {
+            let (small, rest) = told.split_once('~').ok_or("no counts")?;
+            let (large, rest) = rest.split_once('~').ok_or("no counts")?;
+            let (before, behind) = rest.split_once('$').ok_or("no place for counts")?;
+            let runs = [
+                format!(in alloc; "direct~done~{before}{behind}")?,
+                format!(in alloc; "run --batch 16~done~{before}counts {small}\n{behind}")?,
+                format!(in alloc; "run --batch 1024~done~{before}counts {large}\n{behind}")?,
+            ];
+            for told in &runs {
+                count = count.wrapping_add(count_runs(rt, alloc, way, told.as_str())?);
+            }
+        }
+    }
+    Ok(count)
+}
+
+// The first eight were worked by hand, and another program gives the same; the others are that program's.
+#[test]
+fn each_script_that_draws_has_its_report_and_its_images(rt: HostRuntime) -> Result<(), Fail> {
+    for (way, runs) in WAYS.into_iter().zip([33, 33, 22, 22]) {
+        assert_eq!(rt; count_drawn(rt, rt.alloc(), way, DRAWN)?, runs, "{way:?}");
     }
     Ok(())
 }
