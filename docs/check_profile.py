@@ -9,7 +9,7 @@ TOP = Path(__file__).resolve().parent.parent
 WORDS = TOP / "crates/gl_words"
 TRACKED = TOP / "crates/gl_tracked"
 SHADOW = TOP / "crates/client_shadow"
-KINDS = {"Enum": "enumerant", "Unsigned": "unsigned", "Int": "integer", "Fixed": "fixed", "Bool": "truth", "Pointer": "address"}
+KINDS = {"Enum": "enumerant", "Unsigned": "unsigned", "Int": "integer", "Fixed": "fixed", "Truth": "truth", "Pointer": "address"}
 
 
 def definition(path, name):

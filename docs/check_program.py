@@ -4,6 +4,7 @@ adapters do at the real thing: this does. Expected values follow from FORMATS.md
 the examples."""
 
 import fcntl
+import hashlib
 import os
 import resource
 import shutil
@@ -61,7 +62,21 @@ context 0 1 1 4
 end
 """
 SHOTS_REPORT = b"glreport 1\n4 0 ReadPixels 4\nimages 3\nend\n"
+# A triangle in a frame of 4 by 3, whose corners are written over once it was issued: below the line from the lower right
+# corner of the frame to the upper left one lie the middles of three pixels, of two and of one.
+TRIANGLE = b"""glscript 1
+context 0 4 3 8
+0 mem 0 ffff01ffff01
+0 EnableClientState VERTEX_ARRAY
+0 VertexPointer 2 BYTE 0 0
+0 Color4x 65536 32768 0 65536
+0 DrawArrays TRIANGLES 0 3
+0 mem 0 000000000000
+end
+"""
+TRIANGLE_ROWS = ("ff8000 000000 000000 000000", "ff8000 ff8000 000000 000000", "ff8000 ff8000 ff8000 000000")
 LONG = "abcdefghijklmnopqrstuvwxyz-_012"  # one letter fewer than the name of an image may have
+MANY = 1000  # of an image with more bytes the hash stands here
 # The images of the examples, by their bytes from the top row on, three a pixel; another program's, as the reports are.
 EXAMPLE_IMAGES = {
     "batches": {"frame-0": "2 2 ff0000ff0000ff0000ff0000"},
@@ -89,8 +104,10 @@ EXAMPLE_IMAGES = {
         "image-between": "4 2 00ffff00ffff00ffff11111100ffff00ffff00ffff111111",
         "image-outside": "4 1 00000000ffff00ffff000000",
     },
+    "settings": {"frame-0": "4 2 " + "000000" * 8},
     "stacks": {"frame-0": "1 1 000000"},
     "tracked": {"frame-0": "1 1 000000"},
+    "triangle": {"frame-0": "128 128 sha256 466e332292b05f15594ac8c876c57191d453ea3f3e1488b255d0621b097df0d3"},
     "viewport": {"frame-0": "8 4 " + "ffff00" * 32},
 }
 
@@ -338,6 +355,17 @@ def options(folder):
     emptied(folder)
 
 
+def triangle(folder):
+    """The frame of a draw, with its rows from the top and its columns from the left."""
+    image = {"frame-0.ppm": image_of(4, 3, b"".join(map(bytes.fromhex, TRIANGLE_ROWS)))}
+    report = report_of([], "4 0 0 1", 1)
+    for words in (["run"], *(["run", "--rail", rail] for rail in RAILS), ["direct"]):
+        wanted = without_counts(report) if words == ["direct"] else report
+        wants(f"a triangle, {words}", run(words, TRIANGLE, emptied(folder)), (0, wanted, b""))
+        wants(f"the frame of a triangle, {words}", files_in(folder), image)
+    emptied(folder)
+
+
 def examples(folder):
     """Each script prints what stands beside it over each rail, and puts the images that stand above."""
     scripts = sorted(EXAMPLES.glob("*.gls"))
@@ -355,7 +383,8 @@ def examples(folder):
         for name, image in images.items():
             head, size, most, pixels = image.split(b"\n", 3)
             wants(f"{path.name}, {name}: the head", (head, most), (b"P6", b"255"))
-            given[name.removesuffix(".ppm")] = f"{size.decode()} {pixels.hex()}"
+            short_form = pixels.hex() if len(pixels) <= MANY else f"sha256 {hashlib.sha256(pixels).hexdigest()}"
+            given[name.removesuffix(".ppm")] = f"{size.decode()} {short_form}"
         wants(f"{path.name}: the images", given, EXAMPLE_IMAGES.get(path.stem))
         for rail in RAILS:
             over = run(["run", *words, "--rail", rail], script, emptied(folder))
@@ -586,7 +615,7 @@ def main():
         return 0
     with tempfile.TemporaryDirectory() as room:
         folder = Path(room)
-        for check in (texts_and_statuses, files_in_the_way, short_writes, large_things, options):
+        for check in (texts_and_statuses, files_in_the_way, short_writes, large_things, options, triangle):
             check(emptied(folder))
         count = examples(folder)
         counted = threads_of_runs(folder)
