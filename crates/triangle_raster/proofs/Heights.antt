@@ -1,17 +1,17 @@
 -- Where a triangle covers a centre, the centre is no higher than the highest corner: the centre, times the determinant of the corners, is the sum of the corners by weight.
-use Rattle.std.proofs.Common.{◌≡◌, zero, suc, Bool, true, false, ℤ, pos, negsuc, ◌+ℤ◌, ◌-ℤ◌, ◌*ℤ◌, neg_ℤ, ◌<ℤ◌, ◌≤ℤ◌, ◌⊎◌, inl, inr, List, Option, None, refl, sym, ap, ◌∙◌, arith}
-use Rattle.std.specs.Prelude.{int_lt, if◌then◌else◌}
+use Rattle.std.proofs.Common.{◌≡◌, zero, suc, Bool, true, false, ℤ, pos, negsuc, ◌+ℤ◌, ◌*ℤ◌, neg_ℤ, ◌<ℤ◌, ◌≤ℤ◌, ◌⊎◌, inl, inr, List, Option, None, refl, sym, ap, ◌∙◌, arith}
+use Rattle.std.specs.Prelude.{if◌then◌else◌}
 use Rattle.std.proofs.lemmas.Bool.{cases_Bool}
 use Rattle.std.proofs.lemmas.Int.{ints}
 use Rattle.triangle_raster.specs.declared.fragment.Fragment.{Fragment}
 use Rattle.triangle_raster.specs.declared.vertex.Vertex.{Vertex}
 use Rattle.triangle_raster.specs.declared.vertex.View.{View}
-use Rattle.triangle_raster.specs.Vertex.{Vector, centre_of, edge_through, turned, value_at}
+use Rattle.triangle_raster.specs.Vertex.{Vector, centre_of, edge_through, value_at}
 use Rattle.triangle_raster.specs.Pixel.{Weights, delta_of, edge_of, inward, is_covered, is_zero, kept_fragment, pixel_of, place, weights_of}
 use Rattle.triangle_raster.proofs.WholeNumbers.{difference-product, negative-product, product-product, product-sum, product_swapped, rotated_product}
 use Rattle.triangle_raster.proofs.Quotients.{lesser_factor, product_rises}
 use Rattle.triangle_raster.proofs.Edges.{inward-negative, inward-other}
-use Rattle.triangle_raster.proofs.Ranges.{NoneIsNegative, covered_not_negative}
+use Rattle.triangle_raster.proofs.Ranges.{covered_not_negative}
 use Rattle.triangle_raster.proofs.SharedEdges.{value_at-turned}
 
 -- ---- the corners' parts by the coefficients of the edges across from them

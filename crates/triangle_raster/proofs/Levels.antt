@@ -43,7 +43,7 @@ module _ (s : Shape) (shape : IsShape s) (x y : ℤ) (sums next : Sums) (here : 
       ∙ ap (λ (u : Vector). a +ℤ pos 2 *ℤ u.x) (sym same)
       ∙ ap (λ (z : ℤ). a +ℤ pos 2 *ℤ z) (sym l)
 
-  grown_by : (a b c : ℤ) → weighted (sums_seen next) a b c ≡ weighted (sums_seen sums) a b c +ℤ pos 2 *ℤ weighted (steps_of s) a b c
+  pub grown_by : (a b c : ℤ) → weighted (sums_seen next) a b c ≡ weighted (sums_seen sums) a b c +ℤ pos 2 *ℤ weighted (steps_of s) a b c
   grown_by a b c =
       weighted-grown (sums_seen sums) (steps_of s) (sums_seen next) a b c
       (step_from (edge_seen s.one) _ sums.one next.one s.one.x shape.first_edge (first_weight _ _ x y _ here) (first_weight _ _ (x +ℤ pos 1) y _ there) refl)

@@ -14,3 +14,7 @@ pub mod Quotients
 pub mod Ranges
 pub mod Walks
 pub mod Heights
+pub mod Runs
+pub mod Carries
+pub mod CarriedWalks
+pub mod Wholes

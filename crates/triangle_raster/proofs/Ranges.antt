@@ -89,7 +89,7 @@ module _ (corners : List Vertex) (view : View) (x y : ℤ) (f : Fragment) where
 -- ---- values
 -- a number, given three times
 module _ (w : Weights) (z : ℤ) where
-  weighted-same : weighted w z z z ≡ (w.one +ℤ w.two +ℤ w.three) *ℤ z
+  pub weighted-same : weighted w z z z ≡ (w.one +ℤ w.two +ℤ w.three) *ℤ z
   unfolding weighted
   weighted-same =
       omega (arith, ints, product_swapped (w.one +ℤ w.two +ℤ w.three) z, product-sum z (w.one +ℤ w.two) w.three, product-sum z w.one w.two)
@@ -102,7 +102,7 @@ module _ (w : Weights) (z : ℤ) where
 
 -- a weighted sum from below and from above
 module _ (w : Weights) (none : NoneIsNegative w) (a b c : ℤ) where
-  from_low : (low : ℤ) → low ≤ℤ a → low ≤ℤ b → low ≤ℤ c → ((w.one +ℤ w.two +ℤ w.three) *ℤ low) ≤ℤ weighted w a b c
+  pub from_low : (low : ℤ) → low ≤ℤ a → low ≤ℤ b → low ≤ℤ c → ((w.one +ℤ w.two +ℤ w.three) *ℤ low) ≤ℤ weighted w a b c
   unfolding weighted
   from_low low h k l =
       let first = product_rises w.one low a none.from_one h in
@@ -111,7 +111,7 @@ module _ (w : Weights) (none : NoneIsNegative w) (a b c : ℤ) where
       let same : w.one *ℤ low +ℤ w.two *ℤ low +ℤ w.three *ℤ low ≡ (w.one +ℤ w.two +ℤ w.three) *ℤ low = weighted-same w low in
       omega (arith, ints)
 
-  to_high : (high : ℤ) → a ≤ℤ high → b ≤ℤ high → c ≤ℤ high → weighted w a b c ≤ℤ ((w.one +ℤ w.two +ℤ w.three) *ℤ high)
+  pub to_high : (high : ℤ) → a ≤ℤ high → b ≤ℤ high → c ≤ℤ high → weighted w a b c ≤ℤ ((w.one +ℤ w.two +ℤ w.three) *ℤ high)
   unfolding weighted
   to_high high h k l =
       let first = product_rises w.one a high none.from_one h in

@@ -1,5 +1,5 @@
 -- Walks: which columns they have, and what is left after one of them.
-use Rattle.std.proofs.Common.{◌≡◌, ℕ, zero, suc, ◌-◌, ◌<◌, Bool, true, false, ℤ, pos, ◌+ℤ◌, ◌≤ℤ◌, w32, to_z, of_z, List, [], Option, Some, None, refl, sym, ap, subst, ◌∙◌, arith}
+use Rattle.std.proofs.Common.{◌≡◌, ℕ, zero, suc, ◌-◌, ◌<◌, true, false, ℤ, pos, ◌+ℤ◌, ◌≤ℤ◌, w32, to_z, of_z, List, [], Option, Some, None, refl, sym, ap, subst, ◌∙◌, arith}
 use Rattle.std.specs.Prelude.{IfSome, IsNone, is_some}
 use Rattle.std.specs.List.{cons_option}
 use Rattle.std.proofs.lemmas.Int.{ints}
@@ -7,45 +7,58 @@ use Rattle.triangle_raster.specs.declared.fragment.Fragment.{Fragment}
 use Rattle.triangle_raster.specs.declared.fragment.Spot.{Spot}
 use Rattle.triangle_raster.specs.declared.shape.Shape.{Shape}
 use Rattle.triangle_raster.specs.declared.sums.Sums.{Sums}
+use Rattle.triangle_raster.specs.declared.carry.Carries.{Carries}
+use Rattle.triangle_raster.specs.declared.carry.LongCarry.{LongCarry}
+use Rattle.triangle_raster.specs.declared.columns.Columns.{Columns}
 use Rattle.triangle_raster.specs.declared.walk.Walk.{Walk}
+use Rattle.triangle_raster.specs.declared.rates.Rates.{Rates}
 use Rattle.triangle_raster.specs.Vertex.{IsFromTo, corner}
 use Rattle.triangle_raster.specs.Pixel.{Weights, is_covered, kept_fragment, means, pixel_of}
 use Rattle.triangle_raster.specs.Row.{first, first_spot, numbers_from, pixels_at, rest}
-use Rattle.triangle_raster.specs.Held.{depth_at, spot_at, sums_seen, walk_seen, AreNotNegative, AreSumsAt, IsDepthBefore, IsLevel, IsShape, IsWalk}
+use Rattle.triangle_raster.specs.Held.{depth_at, spot_at, walk_seen, weights_here, AreColumns, AreNotNegative, AreSumsAt, AreRates, IsDepthBefore, IsReadied, IsReadyAt, IsShape, IsWalk}
 use Rattle.triangle_raster.proofs.Fragments.{fragment_from_depth, no_fragment_without_depth, pixel_of-covered}
-use Rattle.triangle_raster.proofs.CoveredColumns.{sums_kept}
 use Rattle.triangle_raster.proofs.Ranges.{covered_not_negative}
 use Rattle.triangle_raster.proofs.Rows.{pixels_at-kept}
 
 -- a walk that begins in a column
-abbrev pub begun : Shape → ℤ → ℤ → ℕ → Sums → Bool → Option ℕ → Walk
-begun s y x left sums level found = record { shape = s; y = y; x = x; left = left; sums = sums; level = level; found = found }
+abbrev pub begun : Shape → Rates → ℤ → ℤ → ℕ → Sums → Carries → LongCarry → Option ℕ → Walk
+begun s rates y x left sums carries depth found = record { shape = s; rates = rates; y = y; x = x; left = left; sums = sums; carries = carries; depth = depth; found = found }
 
-module _ (s : Shape) (shape : IsShape s) (y x : ℤ) (left : ℕ) (sums : Sums) (level : Bool) (found : Option ℕ) where
-  begun_holds_here : IsFromTo (pos 0) (pos 256) y → pos 0 ≤ℤ x → (x +ℤ pos left) ≤ℤ pos 256 → AreSumsAt s x y sums → (level ≡ true → IsLevel s) → found ≡ depth_at s.corners (sums_seen sums) →
-      ((k : ℕ) → k < left → is_covered s.corners s.view (x +ℤ pos k) y ≡ true) → IsWalk (begun s y x left sums level found)
-  begun_holds_here height low width here is_level depth covered = record {
-    shape_holds = shape;
-    in_height = height;
-    from_zero = low;
-    in_width = width;
-    sums_hold = here;
-    level_holds = is_level;
-    depth_holds = depth;
-    all_covered = covered;
-  }
-
-  pub begun_holds : (y' x' : ℤ) → y' ≡ y → x' ≡ x → IsFromTo (pos 0) (pos 256) y → pos 0 ≤ℤ x → (x +ℤ pos left) ≤ℤ pos 256 → AreSumsAt s x' y' sums → (level ≡ true → IsLevel s) → found ≡ depth_at s.corners (sums_seen sums) →
-      ((k : ℕ) → k < left → is_covered s.corners s.view (x +ℤ pos k) y ≡ true) → IsWalk (begun s y' x' left sums level found)
-  begun_holds y' x' at_y at_x height low width here is_level depth covered =
-      subst (λ (z : ℤ). IsWalk (begun s z x' left sums level found)) (sym at_y)
-      (subst (λ (z : ℤ). IsWalk (begun s y z left sums level found)) (sym at_x)
-      (begun_holds_here height low width (sums_kept s x y x' y' sums here at_x at_y) is_level depth covered))
+module _ (s : Shape) (shape : IsShape s) (rates : Rates) (rates_hold : AreRates s rates) (y : ℤ) (height : IsFromTo (pos 0) (pos 256) y) (columns : Columns) (are : AreColumns s y columns) (sums : Sums) (carries : Carries) (depth : LongCarry) (found : Option ℕ) where
+  pub begun_holds : (y' x' : ℤ) → y' ≡ y → x' ≡ columns.x → (0 < columns.left → IsReadyAt (begun s rates y columns.x columns.left sums carries depth found) columns.x) →
+      IsWalk (begun s rates y' x' columns.left sums carries depth found)
+  begun_holds y' x' at_y at_x ready =
+      subst (λ (z : ℤ). IsWalk (begun s rates z x' columns.left sums carries depth found)) (sym at_y)
+      (subst (λ (z : ℤ). IsWalk (begun s rates y z columns.left sums carries depth found)) (sym at_x)
+      (record {
+        shape_holds = shape;
+        in_height = height;
+        from_zero = are.first_from_zero;
+        in_width = are.end_in_width;
+        rates_hold = rates_hold;
+        next_holds = ready;
+        all_covered = are.each_covered;
+      }))
 
 -- ---- the column that is next
 -- a walk after one column
-abbrev pub moved : Walk → ℤ → ℕ → Sums → Option ℕ → Walk
-moved r x left sums found = record { shape = r.shape; y = r.y; x = x; left = left; sums = sums; level = r.level; found = found }
+abbrev pub moved : Walk → ℤ → ℕ → Walk
+moved w x left = begun w.shape w.rates w.y x left w.sums w.carries w.depth w.found
+
+-- what a walk holds after the next column
+abbrev pub tail : Walk → List Fragment
+tail r = pixels_at r.shape.corners r.shape.view r.y (numbers_from (r.x +ℤ pos 1) (r.left - 1))
+
+ready_moved : (w : Walk) (x x' : ℤ) (left : ℕ) → x' ≡ x → IsReadyAt w x → IsReadyAt (moved w x' left) x'
+ready_moved w x x' left e ready =
+    subst (λ (z : ℤ). IsReadyAt (moved w x' left) z) (sym e)
+    (record {
+      depth_holds = ready.depth_holds;
+      sums_hold = ready.sums_hold;
+      carried_at = λ t.
+          let carried = ready.carried_at t in
+          record { values_carried = carried.values_carried; others_carried = carried.others_carried; ten_carried = carried.ten_carried; depth_carried = carried.depth_carried };
+    })
 
 module _ (r : Walk) (holds : IsWalk r) (some : 0 < r.left) where
   pub column_holds : IsFromTo (pos 0) (pos 256) r.x
@@ -54,63 +67,75 @@ module _ (r : Walk) (holds : IsWalk r) (some : 0 < r.left) where
   pub next_in_frame : IsFromTo (pos 0) (pos 256) (r.x +ℤ pos 1)
   next_in_frame = let width : (r.x +ℤ pos r.left) ≤ℤ pos 256 = holds.in_width in let low : pos 0 ≤ℤ r.x = holds.from_zero in (omega (arith, ints), omega (arith, ints))
 
-  pub next_column : to_z w32 (of_z w32 (to_z w32 (of_z w32 r.x) +ℤ pos 1)) ≡ r.x +ℤ pos 1
-  next_column = let within = column_holds in let low : pos 0 ≤ℤ r.x = within.0 in let high : r.x ≤ℤ pos 256 = within.1 in omega (arith, ints)
+  pub next_column : {x : ℤ} → x ≡ r.x → to_z w32 (of_z w32 (to_z w32 (of_z w32 x) +ℤ pos 1)) ≡ r.x +ℤ pos 1
+  next_column {x} e = let within = column_holds in let low : pos 0 ≤ℤ r.x = within.0 in let high : r.x ≤ℤ pos 256 = within.1 in omega (arith, ints)
 
-  pub moved_holds : (x : ℤ) (sums : Sums) (found : Option ℕ) → x ≡ r.x +ℤ pos 1 → AreSumsAt r.shape (r.x +ℤ pos 1) r.y sums → found ≡ depth_at r.shape.corners (sums_seen sums) → IsWalk (moved r x (r.left - 1) sums found)
-  moved_holds x sums found e same depth = record {
-    shape_holds = holds.shape_holds;
-    in_height = holds.in_height;
+  pub moved_holds : (w : Walk) → IsReadied r w → (x : ℤ) (left : ℕ) → x ≡ r.x +ℤ pos 1 → left ≡ r.left - 1 → IsWalk (moved w x left)
+  moved_holds w is x left e h = record {
+    shape_holds = subst IsShape (sym is.same_shape) holds.shape_holds;
+    in_height = subst (λ (z : ℤ). IsFromTo (pos 0) (pos 256) z) (sym is.same_y) holds.in_height;
     from_zero = let low : pos 0 ≤ℤ r.x = holds.from_zero in omega (arith, ints);
     in_width = let width : (r.x +ℤ pos r.left) ≤ℤ pos 256 = holds.in_width in omega (arith, ints);
-    sums_hold = subst (λ (z : ℤ). AreSumsAt r.shape z r.y sums) (sym e) same;
-    level_holds = holds.level_holds;
-    depth_holds = depth;
-    all_covered = λ k below. subst (λ (z : ℤ). is_covered r.shape.corners r.shape.view z r.y ≡ true) (omega (arith, ints)) (holds.all_covered (suc k) (omega arith));
+    rates_hold = subst (λ (s : Shape). AreRates s w.rates) (sym is.same_shape) (subst (λ (t : Rates). AreRates r.shape t) (sym is.same_rates) holds.rates_hold);
+    next_holds = λ more. ready_moved w (r.x +ℤ pos 1) x left e (is.ready (omega arith));
+    all_covered = λ k below.
+        subst (λ (s : Shape). is_covered s.corners s.view (x +ℤ pos k) w.y ≡ true) (sym is.same_shape)
+        (subst (λ (z : ℤ). is_covered r.shape.corners r.shape.view (x +ℤ pos k) z ≡ true) (sym is.same_y)
+        (subst (λ (z : ℤ). is_covered r.shape.corners r.shape.view z r.y ≡ true) (omega (arith, ints)) (holds.all_covered (suc k) (omega arith))));
   }
 
   pub covered_here : is_covered r.shape.corners r.shape.view r.x r.y ≡ true
   covered_here = subst (λ (z : ℤ). is_covered r.shape.corners r.shape.view z r.y ≡ true) (omega (arith, ints)) (holds.all_covered 0 some)
 
-  pub not_negative_here : AreNotNegative r.sums
-  not_negative_here =
+  pub not_negative_here : AreSumsAt r.shape r.x r.y r.sums → AreNotNegative r.sums
+  not_negative_here here =
       let none = covered_not_negative r.shape.corners r.shape.view r.x r.y covered_here in
       record {
-        from_one = subst (λ (w : Weights). pos 0 ≤ℤ w.one) (sym holds.sums_hold) none.from_one;
-        from_two = subst (λ (w : Weights). pos 0 ≤ℤ w.two) (sym holds.sums_hold) none.from_two;
-        from_three = subst (λ (w : Weights). pos 0 ≤ℤ w.three) (sym holds.sums_hold) none.from_three;
+        from_one = subst (λ (w : Weights). pos 0 ≤ℤ w.one) (sym here) none.from_one;
+        from_two = subst (λ (w : Weights). pos 0 ≤ℤ w.two) (sym here) none.from_two;
+        from_three = subst (λ (w : Weights). pos 0 ≤ℤ w.three) (sym here) none.from_three;
       }
 
-  pub depth_before : (next : Sums) → AreSumsAt r.shape (r.x +ℤ pos 1) r.y next → IsDepthBefore r.shape r.found next
-  depth_before next same = record { x = r.x; y = r.y; sums = r.sums; here = holds.sums_hold; there = same; same_depth = holds.depth_holds }
+  pub depth_before : (next : Sums) → AreSumsAt r.shape r.x r.y r.sums → AreSumsAt r.shape (r.x +ℤ pos 1) r.y next → IsDepthBefore r.shape r.found next
+  depth_before next here same = record {
+    x = r.x;
+    y = r.y;
+    sums = r.sums;
+    here = here;
+    there = same;
+    same_depth = (holds.next_holds some).depth_holds ∙ ap (λ (w : Weights). depth_at r.shape.corners w) (sym here);
+  }
 
-  moved_seen : (n : ℕ) → n ≡ r.left → (x : ℤ) (sums : Sums) (found : Option ℕ) → x ≡ r.x +ℤ pos 1 →
-      pixels_at r.shape.corners r.shape.view r.y (numbers_from r.x n) ≡ cons_option (pixel_of r.shape.corners r.shape.view r.x r.y) (walk_seen (moved r x (r.left - 1) sums found))
-  moved_seen zero e x sums found h = absurd (omega arith)
-  moved_seen (suc n) e x sums found h =
+  split_seen : (n : ℕ) → n ≡ r.left → pixels_at r.shape.corners r.shape.view r.y (numbers_from r.x n) ≡ cons_option (pixel_of r.shape.corners r.shape.view r.x r.y) (tail r)
+  split_seen zero e = absurd (omega arith)
+  split_seen (suc n) e =
       let same : r.left - 1 ≡ n = omega arith in
-      ap (λ (fs : List Fragment). cons_option (pixel_of r.shape.corners r.shape.view r.x r.y) fs) (sym (pixels_at-kept r.shape.corners r.shape.view refl h same))
+      ap (λ (fs : List Fragment). cons_option (pixel_of r.shape.corners r.shape.view r.x r.y) fs) (sym (pixels_at-kept r.shape.corners r.shape.view refl refl same))
 
-  pub walk_is : (x : ℤ) (sums : Sums) (found : Option ℕ) → x ≡ r.x +ℤ pos 1 → walk_seen r ≡ cons_option (pixel_of r.shape.corners r.shape.view r.x r.y) (walk_seen (moved r x (r.left - 1) sums found))
-  walk_is x sums found h = moved_seen r.left refl x sums found h
+  pub walk_splits : walk_seen r ≡ cons_option (pixel_of r.shape.corners r.shape.view r.x r.y) (tail r)
+  walk_splits = split_seen r.left refl
+
+  pub walk_is : (w : Walk) → IsReadied r w → (x : ℤ) (left : ℕ) → x ≡ r.x +ℤ pos 1 → left ≡ r.left - 1 → walk_seen r ≡ cons_option (pixel_of r.shape.corners r.shape.view r.x r.y) (walk_seen (moved w x left))
+  walk_is w is x left e h =
+      walk_splits
+      ∙ ap (λ (fs : List Fragment). cons_option (pixel_of r.shape.corners r.shape.view r.x r.y) fs)
+      (sym (ap (λ (s : Shape). pixels_at s.corners s.view w.y (numbers_from x left)) is.same_shape ∙ pixels_at-kept r.shape.corners r.shape.view is.same_y e h))
 
   -- the pixel here is its fragment by the sums
-  pub pixel_here : pixel_of r.shape.corners r.shape.view r.x r.y ≡ kept_fragment r.shape.corners (sums_seen r.sums) r.x r.y
-  pixel_here =
-      pixel_of-covered r.shape.corners r.shape.view r.x r.y holds.shape_holds.not_flat covered_here
-      ∙ ap (λ (w : Weights). kept_fragment r.shape.corners w r.x r.y) (sym holds.sums_hold)
+  pub pixel_here : pixel_of r.shape.corners r.shape.view r.x r.y ≡ kept_fragment r.shape.corners (weights_here r) r.x r.y
+  pixel_here = pixel_of-covered r.shape.corners r.shape.view r.x r.y holds.shape_holds.not_flat covered_here
 
-  module _ (d : ℕ) (found : depth_at r.shape.corners (sums_seen r.sums) ≡ Some d) where
+  module _ (d : ℕ) (found : depth_at r.shape.corners (weights_here r) ≡ Some d) where
     pub walk_begins : walk_seen r ≡ cons_option (Some (let f : Fragment = record {
       x = r.x;
       y = r.y;
       depth = d;
-      values = means (sums_seen r.sums) (corner r.shape.corners 0).values (corner r.shape.corners 1).values (corner r.shape.corners 2).values;
-    } in f)) (walk_seen (moved r (r.x +ℤ pos 1) (r.left - 1) r.sums r.found))
+      values = means (weights_here r) (corner r.shape.corners 0).values (corner r.shape.corners 1).values (corner r.shape.corners 2).values;
+    } in f)) (tail r)
     walk_begins =
-        walk_is (r.x +ℤ pos 1) r.sums r.found refl
-        ∙ ap (λ (o : Option Fragment). cons_option o (walk_seen (moved r (r.x +ℤ pos 1) (r.left - 1) r.sums r.found)))
-        (pixel_here ∙ sym (fragment_from_depth r.shape.corners (sums_seen r.sums) d found r.x r.y refl refl refl))
+        walk_splits
+        ∙ ap (λ (o : Option Fragment). cons_option o (tail r))
+        (pixel_here ∙ sym (fragment_from_depth r.shape.corners (weights_here r) d found r.x r.y refl refl refl))
 
     pub first_spot_here : {list : List Fragment} {x y : ℤ} → walk_seen r ≡ list → x ≡ r.x → y ≡ r.y → Some (let s : Spot = record { x = x; y = y; depth = d } in s) ≡ first_spot list
     first_spot_here {list} {x} {y} e p q =
@@ -125,22 +150,22 @@ module _ (r : Walk) (holds : IsWalk r) (some : 0 < r.left) where
         (ap rest
         (sym e ∙ h
         ∙ ap (λ (o : Option Fragment). cons_option o left)
-        (pixel_here ∙ sym (fragment_from_depth r.shape.corners (sums_seen r.sums) d found r.x r.y refl refl refl))))
+        (pixel_here ∙ sym (fragment_from_depth r.shape.corners (weights_here r) d found r.x r.y refl refl refl))))
 
     pub first_here : {list : List Fragment} {f : Fragment} → walk_seen r ≡ list → Some f ≡ pixel_of r.shape.corners r.shape.view r.x r.y → Some f ≡ first list
     first_here {list} {f} e h =
         sym
         (ap first
-        (sym e ∙ walk_is (r.x +ℤ pos 1) r.sums r.found refl
-        ∙ ap (λ (o : Option Fragment). cons_option o (walk_seen (moved r (r.x +ℤ pos 1) (r.left - 1) r.sums r.found))) (sym h)))
+        (sym e ∙ walk_splits
+        ∙ ap (λ (o : Option Fragment). cons_option o (tail r)) (sym h)))
 
   -- a column without a depth has no pixel
-  pub passed_by : {list : List Fragment} → depth_at r.shape.corners (sums_seen r.sums) ≡ None → walk_seen r ≡ cons_option (pixel_of r.shape.corners r.shape.view r.x r.y) list → list ≡ walk_seen r
+  pub passed_by : {list : List Fragment} → depth_at r.shape.corners (weights_here r) ≡ None → walk_seen r ≡ cons_option (pixel_of r.shape.corners r.shape.view r.x r.y) list → list ≡ walk_seen r
   passed_by {list} none e =
       sym
       (e
       ∙ ap (λ (o : Option Fragment). cons_option o list)
-      (pixel_here ∙ sym (no_fragment_without_depth r.shape.corners (sums_seen r.sums) r.x r.y none)))
+      (pixel_here ∙ sym (no_fragment_without_depth r.shape.corners (weights_here r) r.x r.y none)))
 
 pub walk_done : (r : Walk) → r.left ≡ 0 → walk_seen r ≡ []
 walk_done r e = ap (λ (n : ℕ). pixels_at r.shape.corners r.shape.view r.y (numbers_from r.x n)) e
@@ -156,12 +181,12 @@ known_depth None t e = cc
 
 -- ---- what a walk that went to its next fragment found
 module _ (r : Walk) (holds : IsWalk r) {list : List Fragment} (seen : walk_seen r ≡ list) where
-  pub look_is : (found : Option ℕ) {x y : ℤ} → (IsNone found → walk_seen r ≡ []) → IfSome found (λ d. (0 < r.left) × (depth_at r.shape.corners (sums_seen r.sums) ≡ Some d)) →
+  pub look_is : (found : Option ℕ) {x y : ℤ} → (IsNone found → walk_seen r ≡ []) → IfSome found (λ d. (0 < r.left) × (depth_at r.shape.corners (weights_here r) ≡ Some d)) →
       x ≡ r.x → y ≡ r.y → spot_at x y found ≡ first_spot list
   look_is (Some d) none some p q = first_spot_here r holds some.0 d some.1 seen p q
   look_is None none some p q = sym (ap first_spot (sym seen ∙ none refl))
 
-  pub skip_is : (found : Option ℕ) {left : List Fragment} → is_some found ≡ true → IfSome found (λ d. (0 < r.left) × (depth_at r.shape.corners (sums_seen r.sums) ≡ Some d)) →
+  pub skip_is : (found : Option ℕ) {left : List Fragment} → is_some found ≡ true → IfSome found (λ d. (0 < r.left) × (depth_at r.shape.corners (weights_here r) ≡ Some d)) →
       walk_seen r ≡ cons_option (pixel_of r.shape.corners r.shape.view r.x r.y) left → left ≡ rest list
   skip_is (Some d) t some e = rest_here r holds some.0 d some.1 seen e
   skip_is None t some e = cc

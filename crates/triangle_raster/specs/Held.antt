@@ -1,5 +1,5 @@
 -- What the private structs of the code stand for, and within which bounds they keep.
-use Rattle.std.specs.Prelude.{◌≡◌, ◌≢◌, ◌^◌, ◌<◌, ℕ, ℤ, pos, ◌+ℤ◌, ◌*ℤ◌, ◌<ℤ◌, ◌≤ℤ◌, ◌↔◌, Bool, true, false, IsTrue, List, Option, Some, None, if◌then◌else◌}
+use Rattle.std.specs.Prelude.{◌≡◌, ◌≢◌, ◌^◌, ◌<◌, ◌≤◌, ℕ, ℤ, pos, ◌+ℤ◌, ◌*ℤ◌, ◌<ℤ◌, ◌≤ℤ◌, ◌↔◌, Bool, true, false, IsTrue, List, length, Option, Some, None, neg_ℤ, if◌then◌else◌}
 use Rattle.triangle_raster.specs.declared.fragment.Fragment.{Fragment}
 use Rattle.triangle_raster.specs.declared.fragment.Spot.{Spot}
 use Rattle.triangle_raster.specs.declared.vertex.Vertex.{Vertex}
@@ -9,9 +9,16 @@ use Rattle.triangle_raster.specs.declared.edge.Point.{Point}
 use Rattle.triangle_raster.specs.declared.edge.Edge.{Edge}
 use Rattle.triangle_raster.specs.declared.sums.Sums.{Sums}
 use Rattle.triangle_raster.specs.declared.shape.Shape.{Shape}
-use Rattle.triangle_raster.specs.Vertex.{Vector, IsWithin, IsFromTo, IsView, AreCorners}
-use Rattle.triangle_raster.specs.Pixel.{Weights, above_or, delta_of, depth_of, edge_of, is_covered, is_kept, w_at, weights_of, z_at}
+use Rattle.triangle_raster.specs.declared.columns.Columns.{Columns}
+use Rattle.triangle_raster.specs.declared.rates.Rates.{Rates}
+use Rattle.triangle_raster.specs.declared.steps.Steps.{Steps}
+use Rattle.triangle_raster.specs.declared.carry.Carries.{Carries}
+use Rattle.triangle_raster.specs.declared.carry.LongCarry.{LongCarry}
+use Rattle.triangle_raster.specs.Carry.{AreCarries, IsCarry}
+use Rattle.triangle_raster.specs.Vertex.{Vector, corner, IsWithin, IsFromTo, IsView, AreCorners}
+use Rattle.triangle_raster.specs.Pixel.{Weights, above_or, delta_of, depth_of, edge_of, is_covered, is_kept, w_at, weighted, weights_of, z_at}
 use Rattle.triangle_raster.specs.Row.{numbers_from, pixels_at}
+use Rattle.triangle_raster.specs.Ranges.{number_at}
 
 -- a point as a vector
 abbrev pub point_seen : Point → Vector
@@ -103,6 +110,78 @@ pub record IsLevel (s : Shape) : Type 0 where
   pub same_z : z_at s.corners (steps_of s) ≡ pos 0
   pub same_w : w_at s.corners (steps_of s) ≡ pos 0
 
+-- the values of the three corners are the same from one place on
+abbrev pub AreSameFrom : List Vertex → ℕ → Type 0
+AreSameFrom corners start =
+    (k : ℕ) → start ≤ k → k < 10 →
+    (number_at (corner corners 0).values k ≡ number_at (corner corners 1).values k) × (number_at (corner corners 0).values k ≡ number_at (corner corners 2).values k)
+
+-- each of the three corners carries ten values
+pub record HaveTenValues (corners : List Vertex) : Type 0 where
+  pub first_ten : length (corner corners 0).values ≡ 10
+  pub second_ten : length (corner corners 1).values ≡ 10
+  pub third_ten : length (corner corners 2).values ≡ 10
+
+-- the sum of value k of the corners by weight
+abbrev pub sum_at : List Vertex → Weights → ℕ → ℤ
+sum_at corners w k = weighted w (number_at (corner corners 0).values k) (number_at (corner corners 1).values k) (number_at (corner corners 2).values k)
+
+-- ten quotients of sums by weight over the whole: the first of them are carried, and the others are the first corner's values
+pub record AreCarriesOf (corners : List Vertex) (w : Weights) (count : ℕ) (whole : ℤ) (c : Carries) : Type 0 where
+  pub carried : AreCarries whole count (sum_at corners w) c
+  pub slow : (k : ℕ) → k < count → IsWithin (2 ^ 29) (number_at c.values k)
+  pub others : (k : ℕ) → count ≤ k → number_at c.values k ≡ number_at (corner corners 0).values k
+  pub ten : length c.values ≡ 10
+
+-- a depth as a carry
+pub record IsDepthCarry (z w divisor : ℤ) (c : LongCarry) : Type 0 where
+  pub depth_carried : IsCarry divisor ((z +ℤ w) *ℤ pos 65535) c.quotient c.remainder
+  pub depth_slow : IsWithin (2 ^ 29) c.quotient
+
+-- by how much the weights grow from column to column
+abbrev pub rises_of : Shape → Weights
+rises_of s = record { one = pos 2 *ℤ s.one.x; two = pos 2 *ℤ s.two.x; three = pos 2 *ℤ s.three.x }
+
+-- all weights together
+abbrev pub whole_of : Weights → ℤ
+whole_of w = w.one +ℤ w.two +ℤ w.three
+
+-- the corners have one w above zero, and stand between the near plane and the far one
+pub record AreBetween (corners : List Vertex) : Type 0 where
+  pub some_w : pos 0 <ℤ (corner corners 0).w
+  pub second_same : (corner corners 0).w ≡ (corner corners 1).w
+  pub third_same : (corner corners 0).w ≡ (corner corners 2).w
+  pub first_from_near : neg_ℤ (corner corners 0).w ≤ℤ (corner corners 0).z
+  pub second_from_near : neg_ℤ (corner corners 0).w ≤ℤ (corner corners 1).z
+  pub third_from_near : neg_ℤ (corner corners 0).w ≤ℤ (corner corners 2).z
+  pub first_to_far : (corner corners 0).z ≤ℤ (corner corners 0).w
+  pub second_to_far : (corner corners 1).z ≤ℤ (corner corners 0).w
+  pub third_to_far : (corner corners 2).z ≤ℤ (corner corners 0).w
+
+-- the weights together are the same everywhere
+pub record IsWhole (s : Shape) (whole : ℤ) : Type 0 where
+  pub some : pos 0 <ℤ whole
+  pub few : whole ≤ℤ pos (2 ^ 62)
+  pub everywhere : (x y : ℤ) → whole_of (weights_of s.corners s.view x y) ≡ whole
+
+-- by how much depth and values rise from column to column
+pub record AreSteps (s : Shape) (moving : ℕ) (t : Steps) : Type 0 where
+  pub whole_holds : IsWhole s t.whole
+  pub between : AreBetween s.corners
+  pub some_divisor : pos 0 <ℤ t.divisor
+  pub few_divisor : t.divisor ≤ℤ pos (2 ^ 120)
+  pub divisor_holds : t.divisor ≡ pos 2 *ℤ (t.whole *ℤ (corner s.corners 0).w)
+  pub value_steps : AreCarriesOf s.corners (rises_of s) moving t.whole t.values
+  pub depth_step : IsDepthCarry (z_at s.corners (rises_of s)) (pos 0) t.divisor t.depth
+
+-- what is found once a triangle: where it is level, which values are the same at the corners, and the steps where they are carried
+pub record AreRates (s : Shape) (r : Rates) : Type 0 where
+  pub few_moving : r.moving ≤ 10
+  pub carried_holds : IsTrue r.carried → AreSteps s r.moving r.steps
+  pub level_holds : IsTrue r.level → IsLevel s
+  pub ten_values : HaveTenValues s.corners
+  pub others_same : AreSameFrom s.corners r.moving
+
 -- the depth is that in the column before the one with these sums
 pub record IsDepthBefore (s : Shape) (depth : Option ℕ) (next : Sums) : Type 0 where
   pub x : ℤ
@@ -121,15 +200,52 @@ spot_at x y None = None
 abbrev pub walk_seen : Walk → List Fragment
 walk_seen r = pixels_at r.shape.corners r.shape.view r.y (numbers_from r.x r.left)
 
+-- a fragment in the column that is next, with this depth and the values of the first corner
+abbrev pub alike_at : Walk → ℕ → Fragment
+alike_at r depth = record { x = r.x; y = r.y; depth = depth; values = (corner r.shape.corners 0).values }
+
+-- where depth and values are carried, they are those of this column
+pub record IsCarriedAt (r : Walk) (x : ℤ) : Type 0 where
+  pub values_carried : AreCarries r.rates.steps.whole r.rates.moving (sum_at r.shape.corners (weights_of r.shape.corners r.shape.view x r.y)) r.carries
+  pub others_carried : (k : ℕ) → r.rates.moving ≤ k → number_at r.carries.values k ≡ number_at (corner r.shape.corners 0).values k
+  pub ten_carried : length r.carries.values ≡ 10
+  pub depth_carried : IsCarry r.rates.steps.divisor
+      ((z_at r.shape.corners (weights_of r.shape.corners r.shape.view x r.y) +ℤ w_at r.shape.corners (weights_of r.shape.corners r.shape.view x r.y)) *ℤ pos 65535)
+      r.depth.quotient r.depth.remainder
+
+-- the depth is that of this column, and the sums or the carries are
+pub record IsReadyAt (r : Walk) (x : ℤ) : Type 0 where
+  pub depth_holds : r.found ≡ depth_at r.shape.corners (weights_of r.shape.corners r.shape.view x r.y)
+  pub sums_hold : r.rates.carried ≡ false → AreSumsAt r.shape x r.y r.sums
+  pub carried_at : IsTrue r.rates.carried → IsCarriedAt r x
+
+-- the weights in the column that is next
+abbrev pub weights_here : Walk → Weights
+weights_here r = weights_of r.shape.corners r.shape.view r.x r.y
+
+-- the columns lie in the frame and are covered
+pub record AreColumns (s : Shape) (y : ℤ) (c : Columns) : Type 0 where
+  pub first_from_zero : pos 0 ≤ℤ c.x
+  pub end_in_width : (c.x +ℤ pos c.left) ≤ℤ pos 256
+  pub each_covered : (k : ℕ) → k < c.left → is_covered s.corners s.view (c.x +ℤ pos k) y ≡ true
+
+-- a walk that is ready for the column after its next one, if there is one
+pub record IsReadied (old new : Walk) : Type 0 where
+  pub same_shape : new.shape ≡ old.shape
+  pub same_rates : new.rates ≡ old.rates
+  pub same_y : new.y ≡ old.y
+  pub same_x : new.x ≡ old.x
+  pub same_left : new.left ≡ old.left
+  pub ready : 1 < old.left → IsReadyAt new (old.x +ℤ pos 1)
+
 -- the columns lie in the frame and are covered, and the sums and the depth are those of the next one
 pub record IsWalk (r : Walk) : Type 0 where
   pub shape_holds : IsShape r.shape
   pub in_height : IsFromTo (pos 0) (pos 256) r.y
   pub from_zero : pos 0 ≤ℤ r.x
   pub in_width : (r.x +ℤ pos r.left) ≤ℤ pos 256
-  pub sums_hold : AreSumsAt r.shape r.x r.y r.sums
-  pub level_holds : IsTrue r.level → IsLevel r.shape
-  pub depth_holds : r.found ≡ depth_at r.shape.corners (sums_seen r.sums)
+  pub rates_hold : AreRates r.shape r.rates
+  pub next_holds : 0 < r.left → IsReadyAt r r.x
   pub all_covered : (k : ℕ) → k < r.left → is_covered r.shape.corners r.shape.view (r.x +ℤ pos k) r.y ≡ true
 
 -- a corner stands over the lower side of row n, or on it, if it is before the eye

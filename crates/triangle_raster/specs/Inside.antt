@@ -5,7 +5,7 @@ use Rattle.triangle_raster.specs.declared.setup.Setup.TheInside.{Inside as Insid
 use Rattle.triangle_raster.specs.declared.row.Row.TheInside.{Inside as InsideRow}
 use Rattle.triangle_raster.specs.Vertex.{IsArea}
 use Rattle.triangle_raster.specs.Row.{Triangle, triangle_of}
-use Rattle.triangle_raster.specs.Held.{IsShape, IsWalk, walk_seen}
+use Rattle.triangle_raster.specs.Held.{AreRates, IsShape, IsWalk, walk_seen}
 
 -- what it was made of
 abbrev pub setup_seen : InsideSetup → Triangle
@@ -14,6 +14,7 @@ setup_seen s = triangle_of s.shape.corners s.shape.view s.area
 -- the shape and the area keep their bounds
 pub record IsSetup (s : InsideSetup) : Type 0 where
   pub shape_holds : IsShape s.shape
+  pub rates_hold : AreRates s.shape s.rates
   pub area_holds : IsArea s.area
 
 -- the fragments that are still to come

@@ -61,3 +61,8 @@ spot_of f = record { x = f.x; y = f.y; depth = f.depth }
 abbrev pub first_spot : List Fragment → Option Spot
 first_spot [] = None
 first_spot (f ∷ fs) = Some (spot_of f)
+
+-- so many fragments in neighbouring columns that are alike, from one on; own
+abbrev pub run_of : Fragment → ℕ → List Fragment
+run_of f zero = []
+run_of f (suc count) = f ∷ run_of (record f { x = f.x +ℤ pos 1 }) count

@@ -2,16 +2,20 @@
 #![tactic(auto)]
 
 mod arithmetic;
+mod carry;
 mod columns;
 mod edge;
 mod extent;
 mod fragment;
 pub mod laws;
 pub mod plain;
+mod rates;
 mod row;
+mod run;
 mod setup;
 mod shape;
 mod span;
+mod steps;
 mod sums;
 mod vertex;
 mod walk;
@@ -19,5 +23,6 @@ mod walk;
 pub use extent::Extent;
 pub use fragment::{Fragment, Spot};
 pub use row::Row;
+pub use run::Run;
 pub use setup::Setup;
 pub use vertex::{Area, Vertex, View};

@@ -1,11 +1,13 @@
 //! The fragments of one row of a triangle, one after the other.
 
-ghost use Rattle.std.specs.Prelude.{◌≡◌, ◌+ℤ◌, ◌≤ℤ◌, pos};
+ghost use Rattle.std.specs.Prelude.{◌≡◌, ◌+ℤ◌, ◌≤ℤ◌, pos, IfSome};
 ghost use Rattle.triangle_raster.specs.Vertex.{IsFromTo};
-ghost use Rattle.triangle_raster.specs.Held.{IsShape};
-ghost use Rattle.triangle_raster.specs.Row.{first, first_spot, numbers_from, pixels_at, rest};
+ghost use Rattle.triangle_raster.specs.Held.{AreRates, IsShape};
+ghost use Rattle.triangle_raster.specs.Row.{first, first_spot, numbers_from, pixels_at, rest, run_of};
 
 use crate::fragment::{Fragment, Spot};
+use crate::rates::Rates;
+use crate::run::Run;
 use crate::shape::Shape;
 use crate::walk::Walk;
 use std::marker::Model;
@@ -31,15 +33,16 @@ impl Model for Row {
 
 impl Row {
     /// The row from column x on, of so many columns.
-    pub(crate) fn from_column(shape: Shape, y: i32, x: i32, count: u32) -> Row
-        requires shape { IsShape shape }
+    pub(crate) fn from_column(shape: &Shape, rates: &Rates, y: i32, x: i32, count: u32) -> Row
+        requires shape { IsShape shape.now }
+        requires rates { AreRates shape.now rates.now }
         requires y { IsFromTo (pos 0) (pos 256) y }
         requires x { pos 0 ≤ℤ x }
         requires count { (x +ℤ pos count) ≤ℤ pos 256 }
-        ensures { result ≡ pixels_at shape.corners shape.view y (numbers_from x count) }
+        ensures { result ≡ pixels_at shape.now.corners shape.now.view y (numbers_from x count) }
     {
         Row {
-            walk: Walk::from_column(shape, y, x, count),
+            walk: Walk::from_column(shape, rates, y, x, count),
         }
     }
 
@@ -76,5 +79,19 @@ impl Row {
             }
             None => None,
         }
+    }
+
+    /// All fragments that are left, where depth and values are known to be the same in every column; None where that isn't
+    /// known. Own.
+    pub fn run(&self) -> Option<Run>
+        ensures { IfSome result (λ run. self.now ≡ run_of run.first run.count) }
+    {
+        self.walk.run()
+    }
+
+    /// Whether values are carried from column to column, so that leaving a fragment out costs as much as making it. It says
+    /// nothing of what the fragments are. Own.
+    pub fn is_carried(&self) -> bool {
+        self.walk.rates.carried
     }
 }

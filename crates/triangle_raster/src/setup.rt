@@ -7,6 +7,7 @@ ghost use Rattle.triangle_raster.specs.Row.{fragments_of, triangle_of};
 
 use crate::edge::Point;
 use crate::extent::{Extent, bottom_of, top_of};
+use crate::rates::Rates;
 use crate::row::Row;
 use crate::shape::Shape;
 use crate::vertex::{Area, Vertex, View};
@@ -17,6 +18,7 @@ use std::marker::Model;
 #[derive(Drop)]
 pub struct Setup {
     shape: Shape,
+    rates: Rates,
     area: Area,
 }
 
@@ -43,7 +45,8 @@ impl Setup {
         ensures flat { IsNone result ↔ (delta_of corners.now view ≡ pos 0) }
     {
         let shape = Shape::new(corners, view)?;
-        Some(Setup { shape, area })
+        let rates = Rates::of_shape(&shape);
+        Some(Setup { shape, rates, area })
     }
 
     /// Whether the corners run counter-clockwise in the window. Section 3.5.1 of OpenGL ES 1.1.12.
@@ -81,9 +84,9 @@ impl Setup {
     {
         let area = self.area;
         if area.has_row(y) {
-            Row::from_column(self.shape, y, area.left, area.width())
+            Row::from_column(&self.shape, &self.rates, y, area.left, area.width())
         } else {
-            Row::from_column(self.shape, 0, 0, 0)
+            Row::from_column(&self.shape, &self.rates, 0, 0, 0)
         }
     }
 }

@@ -16,7 +16,7 @@ pub struct Sums {
 }
 
 /// Whether three numbers are one.
-fn are_same(a: i32, b: i32, c: i32) -> bool
+pub fn are_same(a: i32, b: i32, c: i32) -> bool
     ensures same { IsTrue result → (a ≡ b) × (a ≡ c) }
 {
     a == b && a == c

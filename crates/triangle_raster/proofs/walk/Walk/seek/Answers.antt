@@ -7,7 +7,7 @@ loop-self-preserved c = record {
   holds = c.step.ensures.holds;
   same =
       passed_by c.loop-self.self c.loop-self.invariant.holds c.loop-self-test.true
-      (sym c.loop-self.invariant.holds.depth_holds ∙ none_from_test _ (sym c.is_some.ensures ∙ c.if-is_some.false))
+      (sym (c.loop-self.invariant.holds.next_holds c.loop-self-test.true).depth_holds ∙ none_from_test _ (sym c.is_some.ensures ∙ c.if-is_some.false))
       c.step.ensures.seen
       ∙ c.loop-self.invariant.same;
 }
@@ -21,4 +21,4 @@ pub returns-then-is_some-clause-none : goal.returns-then-is_some-clause-none
 returns-then-is_some-clause-none c = λ none. known_depth _ (sym c.is_some.ensures ∙ c.if-is_some.true) none
 
 pub returns-then-is_some-clause-some : goal.returns-then-is_some-clause-some
-returns-then-is_some-clause-some c = found_here _ _ c.loop-self-test.true c.loop-self.invariant.holds.depth_holds
+returns-then-is_some-clause-some c = found_here _ _ c.loop-self-test.true (c.loop-self.invariant.holds.next_holds c.loop-self-test.true).depth_holds
