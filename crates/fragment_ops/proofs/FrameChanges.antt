@@ -1,15 +1,13 @@
 -- Changes of frames, for the crates above: that two of them are the same, that one comes after another, and that nothing changes.
-use Rattle.std.proofs.Common.{◌≡◌, ℕ, ◌+◌, ◌*◌, ◌/◌, ◌%◌, ◌<◌, ℤ, Bool, true, false, cond, List, length, get_or, set, Option, Some, None, refl, sym, ap, subst, ◌∙◌, inl, inr, arith}
+use Rattle.std.proofs.Common.{◌≡◌, ℕ, ◌+◌, ◌*◌, ◌<◌, ℤ, Bool, true, false, cond, List, length, Option, Some, None, refl, sym, ap, ◌∙◌, arith}
 use Rattle.std.specs.Prelude.{not}
-use Rattle.std.proofs.lemmas.Bool.{cases_Bool}
 use Rattle.std.proofs.lemmas.List.{set-get_or}
 use Rattle.std.proofs.lemmas.Nat.{mod_below, div_below}
-use Rattle.std.proofs.lemmas.Option.{none-some}
 use Rattle.fragment_ops.specs.declared.cell.Cell.{Cell}
 use Rattle.fragment_ops.specs.declared.place.Place.{Place}
 use Rattle.fragment_ops.specs.declared.state.FragmentState.{FragmentState}
 use Rattle.fragment_ops.specs.Cell.{Fragment, cell_after_put, cell_written, passes_alpha, passes_depth, passes_scissor}
-use Rattle.fragment_ops.specs.Frame.{FrameView, IsFrame, cell_at, changed_from, first_cell, frame_changed, only_at, place_at, place_in}
+use Rattle.fragment_ops.specs.Frame.{FrameView, IsFrame, cell_at, first_cell, frame_changed, only_at, place_at, place_in}
 use Rattle.fragment_ops.specs.Hidden.{is_hidden, is_hidden_at}
 use Rattle.fragment_ops.proofs.Changes.{changed_from-kept, changed_from-same, changed_from-twice, length-changed_from}
 use Rattle.fragment_ops.proofs.Places.{frame_changed-put, with_cells}

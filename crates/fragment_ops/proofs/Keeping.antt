@@ -1,14 +1,16 @@
 -- What a fragment and Clear leave of a cell, and blending at its ends.
-use Rattle.std.proofs.Common.{◌≡◌, ℕ, zero, suc, ◌+◌, ◌*◌, ◌/◌, ◌<◌, ◌≤◌, Bool, true, false, cond, min, ◌&&◌, List, refl, sym, ap, ◌∙◌, arith, lit<}
+use Rattle.std.proofs.Common.{◌≡◌, ℕ, zero, suc, ◌+◌, ◌*◌, ◌/◌, ◌<◌, ◌≤◌, Bool, true, false, cond, min, ◌&&◌, List, [], ◌∷◌, length, refl, sym, ap, ◌∙◌, arith, lit<}
 use Rattle.std.specs.Prelude.{slice_index, slice_index_or}
 use Rattle.std.proofs.lemmas.Bool.{and_left, and_right}
 use Rattle.std.proofs.lemmas.Nat.{div-mul-add}
 use Rattle.fragment_ops.specs.declared.cell.Cell.{Cell}
 use Rattle.fragment_ops.specs.declared.place.Place.{Place}
 use Rattle.fragment_ops.specs.declared.state.FragmentState.{FragmentState}
-use Rattle.fragment_ops.specs.Blend.{blended, blended_at, byte_product, dest_factors, masked, part_blended, source_factors}
+use Rattle.fragment_ops.specs.Blend.{alpha_of, blended, blended_at, byte_product, dest_factors, masked, part_blended, source_factors}
 use Rattle.fragment_ops.specs.Cell.{Fragment, cell_after_clear, cell_after_put, cell_cleared, cell_written, clear_values, passes_alpha, passes_depth, passes_scissor}
-use Rattle.fragment_ops.specs.Rows.{Overwrites}
+use Rattle.fragment_ops.specs.Comparison.{compares}
+use Rattle.fragment_ops.specs.State.{byte_of}
+use Rattle.fragment_ops.specs.Rows.{Overwrites, Paints, cell_painted, cell_tested}
 use Rattle.fragment_ops.specs.Laws.{BlendsAtEnds, ClearKeeps, FragmentKeeps, KeepsMasked}
 
 -- a fact of a cell that is chosen by a test holds where it holds of both
@@ -147,3 +149,50 @@ cell_cleared-overwritten state colour depth old all =
     ap (λ (l : List ℕ). record { colour = l; depth = cond (depth && state.depth_mask) values.depth old.depth }) colour_is
     ∙ ap (λ (d : ℕ). record { colour = values.colour; depth = d }) depth_is
     )
+
+-- a list of four numbers
+four_parts : (colour : List ℕ) → length colour ≡ 4 → colour ≡ slice_index colour 0 ∷ slice_index colour 1 ∷ slice_index colour 2 ∷ slice_index colour 3 ∷ []
+four_parts [] four = absurd (omega arith)
+four_parts (a ∷ []) four = absurd (omega arith)
+four_parts (a ∷ b ∷ []) four = absurd (omega arith)
+four_parts (a ∷ b ∷ c ∷ []) four = absurd (omega arith)
+four_parts (a ∷ b ∷ c ∷ d ∷ []) four = refl
+four_parts (a ∷ b ∷ c ∷ d ∷ e ∷ more) four = absurd (omega arith)
+
+-- a colour that is written where no mask is off
+pub masked-all_on : (mask : List Bool) (new old : List ℕ) → length new ≡ 4 → mask ≡ true ∷ true ∷ true ∷ true ∷ [] → new ≡ masked mask new old
+unfolding masked
+masked-all_on mask new old four on = four_parts new four ∙ sym (ap (λ (m : List Bool). masked m new old) on)
+
+-- a fragment passes tests that are disabled
+untested : (alpha_on depth_on alpha depth : Bool) (new old : Cell) → alpha_on ≡ false → depth_on ≡ false
+    → new ≡ cond (cond alpha_on alpha true) (cond (cond depth_on depth true) new old) old
+untested true depth_on alpha depth new old no_alpha no_depth = cc
+untested false true alpha depth new old no_alpha no_depth = cc
+untested false false alpha depth new old no_alpha no_depth = refl
+
+module _ (state : FragmentState) (depth : ℕ) (colour : List ℕ) (old : Cell) (four : length colour ≡ 4) (all : Paints state) where
+  abbrev painter : Fragment
+  painter = record { depth = depth; colour = colour }
+
+  colour_painted : (cell_written state painter old).colour ≡ colour
+  unfolding cell_written
+  colour_painted =
+      ap (λ (on : Bool). masked state.colour_mask (cond on (blended state.source_factor state.dest_factor colour old.colour) colour) old.colour) all.unblended
+      ∙ sym (masked-all_on state.colour_mask colour old.colour four all.colour_mask)
+
+  written_painted : cell_painted colour old ≡ cell_written state painter old
+  unfolding cell_painted cell_written
+  written_painted =
+      sym (
+      ap (λ (l : List ℕ). record { colour = l; depth = (cell_written state painter old).depth }) colour_painted
+      ∙ ap (λ (d : ℕ). record { colour = colour; depth = d }) (written_untested state painter old all.no_depth)
+      )
+
+  -- a fragment that gives a cell its colour alone
+  pub cell_tested-painted : cell_painted colour old ≡ cell_tested state painter old
+  unfolding cell_tested
+  cell_tested-painted =
+      written_painted
+      ∙ untested state.alpha_on state.depth_on (compares state.alpha_func (alpha_of colour) (byte_of state.alpha_reference)) (compares state.depth_func depth old.depth)
+      (cell_written state painter old) old all.untested all.no_depth

@@ -4,3 +4,4 @@ pub mod Places
 pub mod Keeping
 pub mod Scissors
 pub mod FrameChanges
+pub mod Runs

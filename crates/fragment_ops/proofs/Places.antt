@@ -1,5 +1,5 @@
 -- Where a place stands among the cells of a frame, what a change at one place leaves, and what is read at it.
-use Rattle.std.proofs.Common.{◌≡◌, ℕ, ◌+◌, ◌*◌, ◌/◌, ◌%◌, ◌<◌, ◌≤◌, ℤ, pos, negsuc, ◌<ℤ◌, Bool, ◌&&◌, cond, List, length, get_or, set, Some, None, refl, sym, ap, subst, ◌∙◌, inl, inr, eqb, ltb, arith}
+use Rattle.std.proofs.Common.{◌≡◌, ℕ, ◌+◌, ◌*◌, ◌/◌, ◌%◌, ◌<◌, ◌≤◌, ℤ, pos, negsuc, ◌<ℤ◌, Bool, true, false, ◌&&◌, cond, List, length, get_or, set, Some, None, refl, sym, ap, subst, ◌∙◌, inl, inr, eqb, ltb, arith}
 use Rattle.std.proofs.lemmas.Bool.{and_from, and_left, and_parts, and_right, cases_Bool, eqb-true, le-ltb, lt-ltb, ltb-true}
 use Rattle.std.proofs.lemmas.Bool.Decides.{nat_tests}
 use Rattle.std.proofs.lemmas.Int.{ints}
@@ -7,12 +7,12 @@ use Rattle.std.proofs.lemmas.Nat.{div-mul-add, mod-mul-add, mod_below, div_below
 use Rattle.std.proofs.lemmas.Option.{none-some}
 use Rattle.fragment_ops.specs.declared.cell.Cell.{Cell}
 use Rattle.fragment_ops.specs.declared.place.Place.{Place}
-use Rattle.fragment_ops.specs.Frame.{FrameView, IsFrame, cell_at, changed_from, colour_at, first_cell, frame_changed, is_at, no_colour, only_at, pixel_at, place_at, place_in}
-use Rattle.fragment_ops.specs.declared.clear.Area.{Area}
+use Rattle.fragment_ops.specs.Frame.{FrameView, IsFrame, cell_at, changed_from, colour_at, first_cell, frame_changed, is_among, is_at, no_colour, only_among, only_at, pixel_at, place_at, place_in}
+use Rattle.fragment_ops.specs.declared.area.Area.{Area}
 use Rattle.fragment_ops.specs.declared.state.FragmentState.{FragmentState}
-use Rattle.fragment_ops.specs.Cell.{cell_after_clear, cell_cleared, passes_scissor}
+use Rattle.fragment_ops.specs.Cell.{Fragment, cell_after_clear, cell_after_put, cell_cleared, passes_scissor}
 use Rattle.fragment_ops.specs.Laws.{IsChangedBy}
-use Rattle.fragment_ops.specs.Rows.{in_area, is_in_area}
+use Rattle.fragment_ops.specs.Rows.{cell_tested, in_area, is_in_area}
 use Rattle.fragment_ops.proofs.Changes.{changed_from-kept, changed_from-same, get_or-changed_from, set-changed_from}
 
 -- a place with this column and this row
@@ -188,4 +188,30 @@ frame_changed-cleared state colour depth frame area whole same =
     let in_width : k % width < width = mod_below k width (omega (arith, whole.sides.wide)) in
     let in_height : k / width < frame.height = div_below k width frame.height (omega (arith, whole.sides.wide)) (omega (arith, whole.count)) in
     ap (λ (test : Bool). cond test (cell_cleared state colour depth cell) cell) (same (k % width) (k / width) in_width in_height))
+    )
+
+in_turn : (one other : Bool) (new old : Cell) → cond (one && other) new old ≡ cond other (cond one new old) old
+in_turn true true new old = refl
+in_turn true false new old = refl
+in_turn false true new old = refl
+in_turn false false new old = refl
+
+-- a fragment comes to each cell of an area, which is that of the places of a run that pass the scissor test
+pub frame_changed-run : (state : FragmentState) (fragment : Fragment) (frame : FrameView) (area : Area) (x y : ℤ) (count : ℕ) → IsFrame frame
+    → ((column row : ℕ) → column < frame.width → row < frame.height
+    → is_in_area area (placed column row) ≡ (passes_scissor state (placed column row) && is_among x y count (placed column row)))
+    → with_cells frame (changed_from (in_area area (cell_tested state fragment) frame.width) 0 frame.cells)
+    ≡ frame_changed (only_among x y count (λ place. cell_after_put place state fragment)) frame
+unfolding frame_changed in_area only_among cell_after_put cell_tested
+frame_changed-run state fragment frame area x y count whole same =
+    let width = frame.width in
+    ap (with_cells frame) (
+    changed_from-same (in_area area (cell_tested state fragment) width)
+    (λ before. only_among x y count (λ place. cell_after_put place state fragment) (place_at width before)) 0 frame.cells
+    (λ k cell low high.
+    let in_width : k % width < width = mod_below k width (omega (arith, whole.sides.wide)) in
+    let in_height : k / width < frame.height = div_below k width frame.height (omega (arith, whole.sides.wide)) (omega (arith, whole.count)) in
+    let place = place_at width k in
+    ap (λ (test : Bool). cond test (cell_tested state fragment cell) cell) (same (k % width) (k / width) in_width in_height)
+    ∙ in_turn (passes_scissor state place) (is_among x y count place) (cell_tested state fragment cell) cell)
     )

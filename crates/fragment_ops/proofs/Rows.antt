@@ -6,7 +6,7 @@ use Rattle.std.proofs.lemmas.Bool.{and_left, and_right, cases_lt, cases_order, l
 use Rattle.std.proofs.lemmas.Bool.Decides.{nat_tests}
 use Rattle.std.proofs.lemmas.Nat.{mod_below, div-add-mod'}
 use Rattle.fragment_ops.specs.declared.cell.Cell.{Cell}
-use Rattle.fragment_ops.specs.declared.clear.Area.{Area}
+use Rattle.fragment_ops.specs.declared.area.Area.{Area}
 use Rattle.fragment_ops.specs.Frame.{changed_from}
 use Rattle.fragment_ops.specs.Rows.{in_area, in_run, is_in_area}
 use Rattle.fragment_ops.proofs.Changes.{changed_from-same, changed_from-twice, changed_from-kept, set-changed_from}

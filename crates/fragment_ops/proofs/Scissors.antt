@@ -1,9 +1,9 @@
 -- The area of the places that pass the scissor test.
-use Rattle.std.proofs.Common.{◌≡◌, ℕ, ◌<◌, ◌≤◌, ℤ, pos, ◌+ℤ◌, ◌≤ℤ◌, Bool, true, false, ◌&&◌, cond, List, inl, inr, leb, ltb, sym, ap, ◌∙◌, arith}
+use Rattle.std.proofs.Common.{◌≡◌, ℕ, ◌<◌, ◌≤◌, ℤ, pos, ◌+ℤ◌, ◌≤ℤ◌, Bool, true, false, ◌&&◌, cond, List, inl, inr, leb, ltb, refl, sym, ap, ◌∙◌, arith}
 use Rattle.std.specs.Prelude.{int_le, int_lt, nat_lt}
 use Rattle.std.proofs.lemmas.Bool.{cases_lt, le-leb, le-ltb, lt-ltb}
 use Rattle.std.proofs.lemmas.Int.{ints}
-use Rattle.fragment_ops.specs.declared.clear.Area.{Area}
+use Rattle.fragment_ops.specs.declared.area.Area.{Area}
 use Rattle.fragment_ops.specs.declared.place.Place.{Place}
 use Rattle.fragment_ops.specs.declared.state.FragmentState.{FragmentState}
 use Rattle.fragment_ops.specs.Cell.{is_within, passes_scissor}
@@ -56,3 +56,21 @@ is_in_area-cut area rectangle column row left right bottom top =
     ∙ ap (λ (t : Bool). (int_le (number_at rectangle 0) (pos column) && t) && (leb area.bottom row && ltb row area.top)) right
     ∙ ap (λ (t : Bool). (int_le (number_at rectangle 0) (pos column) && int_lt (pos column) (number_at rectangle 0 +ℤ number_at rectangle 2)) && (t && ltb row area.top)) bottom
     ∙ ap (λ (t : Bool). (int_le (number_at rectangle 0) (pos column) && int_lt (pos column) (number_at rectangle 0 +ℤ number_at rectangle 2)) && (int_le (number_at rectangle 1) (pos row) && t)) top
+
+swapped : (a b c d : Bool) → ((a && b) && (c && d)) ≡ ((a && c) && (b && d))
+swapped true true c d = refl
+swapped true false true d = refl
+swapped true false false d = refl
+swapped false b c d = refl
+
+-- an area with the numbers that the sides of two areas share has the places that lie in both
+pub is_in_area-both : (area one other : Area) (column row : ℕ)
+    → (leb area.left column && ltb column area.right) ≡ ((leb one.left column && ltb column one.right) && (leb other.left column && ltb column other.right))
+    → (leb area.bottom row && ltb row area.top) ≡ ((leb one.bottom row && ltb row one.top) && (leb other.bottom row && ltb row other.top))
+    → is_in_area area (placed column row) ≡ (is_in_area one (placed column row) && is_in_area other (placed column row))
+unfolding is_in_area
+is_in_area-both area one other column row across upwards =
+    ap (λ (t : Bool). t && (leb area.bottom row && ltb row area.top)) across
+    ∙ ap (λ (t : Bool). ((leb one.left column && ltb column one.right) && (leb other.left column && ltb column other.right)) && t) upwards
+    ∙ swapped (leb one.left column && ltb column one.right) (leb other.left column && ltb column other.right)
+    (leb one.bottom row && ltb row one.top) (leb other.bottom row && ltb row other.top)

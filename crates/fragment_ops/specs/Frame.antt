@@ -2,6 +2,7 @@
 use Rattle.std.specs.Prelude.{◌≡◌, ℕ, suc, ◌+◌, ◌*◌, ◌/◌, ◌%◌, ◌≤◌, ◌==◌, nat_lt, ℤ, pos, Bool, false, ◌&&◌, if◌then◌else◌, List, [], ◌∷◌, length, replicate, slice_index_or, Option, Some, None}
 use Rattle.fragment_ops.specs.declared.cell.Cell.{Cell}
 use Rattle.fragment_ops.specs.declared.place.Place.{Place}
+use Rattle.fragment_ops.specs.Cell.{is_within}
 
 -- a rectangle of cells: its sides in pixels, and its cells row by row from the lower left corner on; own
 pub record FrameView : Type 0 where
@@ -54,6 +55,14 @@ is_at x y place = false
 -- a change made at the place in column x and row y alone: every other cell stays; own
 unfoldable pub only_at : ℤ → ℤ → (Place → Cell → Cell) → Place → Cell → Cell
 only_at x y change place old = if is_at x y place then change place old else old
+
+-- a place is one of so many of row y, from column x on; own
+unfoldable pub is_among : ℤ → ℤ → ℕ → Place → Bool
+is_among x y count place = is_within (x ∷ y ∷ pos count ∷ pos 1 ∷ []) place
+
+-- a change made at so many places of row y, from column x on, alone: every other cell stays; own
+unfoldable pub only_among : ℤ → ℤ → ℕ → (Place → Cell → Cell) → Place → Cell → Cell
+only_among x y count change place old = if is_among x y count place then change place old else old
 
 -- the cell at a place of a frame; own
 unfoldable pub cell_at : FrameView → Place → Cell

@@ -1,7 +1,7 @@
 //! Colours of four bytes, red, green, blue and alpha: blending and masks.
 
-ghost use Rattle.std.specs.Prelude.{◌≡◌, ◌<◌, map, if◌then◌else◌};
-ghost use Rattle.fragment_ops.specs.Blend.{blended, blended_at, byte_product, dest_factors, lack_of, masked, part_blended, saturating, source_factors};
+ghost use Rattle.std.specs.Prelude.{◌≡◌, ◌<◌, map, true, [], ◌∷◌, if◌then◌else◌, IfSome};
+ghost use Rattle.fragment_ops.specs.Blend.{blended, blended_at, byte_product, dest_factors, even, lack_of, masked, part_blended, parts, saturating, source_factors};
 
 const ZERO: u32 = 0;
 
@@ -23,7 +23,8 @@ const DST_COLOR: u32 = 0x0306;
 
 const ONE_MINUS_DST_COLOR: u32 = 0x0307;
 
-/// A source blended with a destination by the factors of these names (section 4.1.7).
+/// A source blended with a destination by the factors of these names (section 4.1.7). Those that blend by the source's alpha
+/// are asked for first, since most draws that blend have them.
 #[tactic(auto, unfolding(crate::specs::Blend::blended))]
 pub(crate) fn blended(
     source_factor: u32,
@@ -31,6 +32,43 @@ pub(crate) fn blended(
     source: [u8; 4],
     dest: [u8; 4],
 ) -> [u8; 4]
+    ensures { result ≡ blended source_factor dest_factor source dest }
+{
+    if source_factor == SRC_ALPHA && dest_factor == ONE_MINUS_SRC_ALPHA {
+        blended_by_alpha(source, dest)
+    } else {
+        blended_by_name(source_factor, dest_factor, source, dest)
+    }
+}
+
+/// A source blended with a destination by the factors of these names: by one for each part of either, or else part by part.
+#[inline(never)]
+#[tactic(auto, unfolding(crate::specs::Blend::blended))]
+fn blended_by_name(source_factor: u32, dest_factor: u32, source: [u8; 4], dest: [u8; 4]) -> [u8; 4]
+    ensures { result ≡ blended source_factor dest_factor source dest }
+{
+    let Some(of_source) = even_source(source_factor, source, dest) else {
+        return blended_apart(source_factor, dest_factor, source, dest);
+    };
+    let Some(of_dest) = even_dest(dest_factor, source, dest) else {
+        return blended_apart(source_factor, dest_factor, source, dest);
+    };
+    blended_evenly(source, of_source, dest, of_dest)
+}
+
+/// A source blended with a destination by its alpha, and by what that lacks to 1.
+#[tactic(auto, unfolding(crate::specs::Blend::blended, crate::specs::Blend::source_factors, crate::specs::Blend::dest_factors))]
+fn blended_by_alpha(source: [u8; 4], dest: [u8; 4]) -> [u8; 4]
+    ensures { result ≡ blended 0x302 0x303 source dest }
+{
+    blended_evenly(source, source[3], dest, 255 - source[3])
+}
+
+/// A source blended with a destination by the factors of these names, each part with a factor of its own.
+#[cold]
+#[inline(never)]
+#[tactic(auto, unfolding(crate::specs::Blend::blended))]
+fn blended_apart(source_factor: u32, dest_factor: u32, source: [u8; 4], dest: [u8; 4]) -> [u8; 4]
     ensures { result ≡ blended source_factor dest_factor source dest }
 {
     let of_source = source_factors(source_factor, source, dest);
@@ -41,6 +79,51 @@ pub(crate) fn blended(
         blended_at(2, source, of_source, dest, of_dest),
         blended_at(3, source, of_source, dest, of_dest),
     ]
+}
+
+/// A source blended with a destination, with one factor for each part of either.
+#[tactic(auto, unfolding(crate::specs::Blend::blended_at))]
+fn blended_evenly(source: [u8; 4], of_source: u8, dest: [u8; 4], of_dest: u8) -> [u8; 4]
+    ensures { result ≡ map (blended_at source (even of_source) dest (even of_dest)) parts }
+{
+    [
+        part_blended(source[0], of_source, dest[0], of_dest),
+        part_blended(source[1], of_source, dest[1], of_dest),
+        part_blended(source[2], of_source, dest[2], of_dest),
+        part_blended(source[3], of_source, dest[3], of_dest),
+    ]
+}
+
+/// The factor of a source, where it is the same for each part (section 4.1.7).
+#[tactic(auto, unfolding(crate::specs::Blend::source_factors))]
+fn even_source(factor: u32, source: [u8; 4], dest: [u8; 4]) -> Option<u8>
+    ensures { IfSome result (λ same. source_factors factor source dest ≡ even same) }
+{
+    match factor {
+        ZERO => Some(0),
+        ONE => Some(255),
+        SRC_ALPHA => Some(source[3]),
+        ONE_MINUS_SRC_ALPHA => Some(255 - source[3]),
+        DST_ALPHA => Some(dest[3]),
+        ONE_MINUS_DST_ALPHA => Some(255 - dest[3]),
+        _ => None,
+    }
+}
+
+/// The factor of a destination, where it is the same for each part (section 4.1.7).
+#[tactic(auto, unfolding(crate::specs::Blend::dest_factors))]
+fn even_dest(factor: u32, source: [u8; 4], dest: [u8; 4]) -> Option<u8>
+    ensures { IfSome result (λ same. dest_factors factor source dest ≡ even same) }
+{
+    match factor {
+        ZERO => Some(0),
+        ONE => Some(255),
+        SRC_ALPHA => Some(source[3]),
+        ONE_MINUS_SRC_ALPHA => Some(255 - source[3]),
+        DST_ALPHA => Some(dest[3]),
+        ONE_MINUS_DST_ALPHA => Some(255 - dest[3]),
+        _ => None,
+    }
 }
 
 /// The part at one place, 0 to 3, of a source blended with a destination, each with these factors.
@@ -123,8 +206,21 @@ fn byte_product(a: u8, b: u8) -> u8
 }
 
 /// A colour that is written over another one: the new part where its mask is on, else the old one (section 4.2.2).
-#[tactic(auto, unfolding(crate::specs::Blend::masked))]
 pub(crate) fn masked(mask: [bool; 4], new: [u8; 4], old: [u8; 4]) -> [u8; 4]
+    ensures { result ≡ masked mask new old }
+{
+    if all_on(mask) {
+        new
+    } else {
+        masked_apart(mask, new, old)
+    }
+}
+
+/// The same, part by part.
+#[cold]
+#[inline(never)]
+#[tactic(auto, unfolding(crate::specs::Blend::masked))]
+fn masked_apart(mask: [bool; 4], new: [u8; 4], old: [u8; 4]) -> [u8; 4]
     ensures { result ≡ masked mask new old }
 {
     [
@@ -133,6 +229,13 @@ pub(crate) fn masked(mask: [bool; 4], new: [u8; 4], old: [u8; 4]) -> [u8; 4]
         chosen(mask[2], new[2], old[2]),
         chosen(mask[3], new[3], old[3]),
     ]
+}
+
+/// Whether each part's mask is on.
+pub(crate) fn all_on(mask: [bool; 4]) -> bool
+    ensures { result ≡ true → mask ≡ true ∷ true ∷ true ∷ true ∷ [] }
+{
+    mask == [true; 4]
 }
 
 /// The new byte where a test passes, else the old one.

@@ -4,6 +4,8 @@
 /// 65535 the far one (chapter 4).
 #[derive(Clone, Copy, Debug, PartialEq, Eq)]
 pub struct Cell {
+    /// Red, green, blue and alpha, 0 to 255 (chapter 4).
     pub colour: [u8; 4],
+    /// 0 the near plane, 65535 the far one (chapter 4).
     pub depth: u16,
 }

@@ -2,12 +2,13 @@
 
 ghost use Rattle.std.specs.Prelude.{◌≡◌, ◌+◌, ◌*◌, ◌<◌, length, IfOk, IfSome};
 ghost use Rattle.fragment_ops.specs.Cell.{cell_after_clear, cell_after_put};
-ghost use Rattle.fragment_ops.specs.Frame.{cell_at, first_frame, frame_changed, only_at, pixel_at, place_in, AreSides, IsFrame};
+ghost use Rattle.fragment_ops.specs.Frame.{cell_at, first_frame, frame_changed, only_among, only_at, pixel_at, place_in, AreSides, IsFrame};
 ghost use Rattle.fragment_ops.specs.Hidden.{is_hidden};
 ghost use Rattle.fragment_ops.specs.State.{IsFragmentState};
 
+use crate::area::Area;
 use crate::cell::Cell;
-use crate::clear::{Area, Clearing};
+use crate::clear::Clearing;
 use crate::place::Place;
 use crate::state::FragmentState;
 use std::alloc::{AllocError as NoMemory, Global};
@@ -100,6 +101,27 @@ impl Frame {
         let old = self.cell(place);
         let at = self.before(place);
         self.cells[at] = state.put(place, depth, colour, old);
+    }
+
+    /// Fragments of the same depth and colour come to so many places of row y, from column x on, in pixels from the lower
+    /// left corner, as `put` tells of each. A depth has 16 bits, a colour four bytes (chapter 4). Every other cell stays,
+    /// and outside the frame nothing changes. It takes no memory.
+    pub fn put_run(
+        &mut self,
+        state: &FragmentState,
+        x: i32,
+        y: i32,
+        count: u32,
+        depth: u16,
+        colour: [u8; 4],
+    )
+        requires state { IsFragmentState state.now }
+        ensures { self.new ≡ frame_changed (only_among x y count (λ place.
+            cell_after_put place state.now (record { depth = depth; colour = colour }))) self.old }
+    {
+        let (width, height) = (self.width, self.height);
+        let area = Area::of_run(state, x, y, count, width, height);
+        state.put_rows(depth, colour, area, width, height, &mut self.cells);
     }
 
     /// Whether the depth test fails a fragment of this depth in column x and row y, in pixels from the lower left corner,

@@ -1,6 +1,7 @@
 //! The frame, and what fragments and Clear make of its cells.
 #![tactic(auto)]
 
+mod area;
 mod blend;
 mod cell;
 mod clear;
@@ -8,6 +9,7 @@ mod comparison;
 mod frame;
 pub mod laws;
 mod place;
+mod run;
 mod state;
 
 pub use cell::Cell;

@@ -3,6 +3,7 @@
 ghost use Rattle.std.specs.Prelude.{◌≡◌, ◌+ℤ◌, int_le, int_lt, pos, ◌&&◌, if◌then◌else◌};
 ghost use Rattle.fragment_ops.specs.Blend.{masked};
 ghost use Rattle.fragment_ops.specs.Cell.{cell_after_put, cell_cleared, cell_written, clear_values, colour_over, is_within, passes_alpha, passes_depth, passes_scissor};
+ghost use Rattle.fragment_ops.specs.Rows.{cell_tested};
 ghost use Rattle.fragment_ops.specs.State.{byte_of, depth_of, AreWithinOne, IsFragmentState, IsWithinOne};
 
 use crate::blend::{blended, masked};
@@ -14,22 +15,29 @@ use crate::place::Place;
 /// that its comparisons and factors are ones, that fixed numbers are 0 to 1, and that no side of the scissor is below 0.
 #[derive(Clone, Copy)]
 pub struct FragmentState {
+    /// Whether the scissor test is enabled (section 4.1.2).
     pub scissor_on: bool,
-    /// x, y, width and height, in pixels (section 4.1.2).
+    /// x, y, width and height, in pixels from the lower left corner; width and height are 0 or more (section 4.1.2).
     pub scissor: [i32; 4],
+    /// Whether the alpha test is enabled (section 4.1.4).
     pub alpha_on: bool,
-    /// A comparison, and a reference of 0 to 65536, 16.16 fixed (section 4.1.4).
+    /// A comparison by its number, NEVER to ALWAYS, 0x200 to 0x207 (section 4.1.4).
     pub alpha_func: u32,
+    /// The reference, 0 to 65536, 16.16 fixed (section 4.1.4).
     pub alpha_reference: i32,
+    /// Whether the depth test is enabled (section 4.1.6).
     pub depth_on: bool,
-    /// A comparison (section 4.1.6).
+    /// A comparison by its number, NEVER to ALWAYS, 0x200 to 0x207 (section 4.1.6).
     pub depth_func: u32,
+    /// Whether depths may be written (section 4.2.2).
     pub depth_mask: bool,
+    /// Whether blending is enabled (section 4.1.7).
     pub blend_on: bool,
-    /// Factors (section 4.1.7).
+    /// A factor of the source by its number, ZERO to SRC_ALPHA_SATURATE (section 4.1.7).
     pub source_factor: u32,
+    /// A factor of the destination by its number, ZERO to ONE_MINUS_DST_ALPHA (section 4.1.7).
     pub dest_factor: u32,
-    /// Red, green, blue and alpha (section 4.2.2).
+    /// Whether red, green, blue and alpha may be written (section 4.2.2).
     pub colour_mask: [bool; 4],
     /// Red, green, blue and alpha, 0 to 65536, 16.16 fixed (section 4.2.3).
     pub clear_colour: [i32; 4],
@@ -107,15 +115,28 @@ impl FragmentState {
     }
 
     /// The cell at a place after a fragment came there: scissor, alpha test, depth test, and then blending and masks.
-    #[tactic(auto, unfolding(crate::specs::Cell::cell_after_put))]
+    #[tactic(auto, unfolding(crate::specs::Cell::cell_after_put, crate::specs::Rows::cell_tested))]
     pub(crate) fn put(&self, place: Place, depth: u16, colour: [u8; 4], old: Cell) -> Cell
         requires state { IsFragmentState self.now }
         ensures { result
             ≡ cell_after_put place self.now (record { depth = depth; colour = colour }) old }
     {
-        if !self.passes_scissor(place) {
-            return old;
+        if self.passes_scissor(place) {
+            self.put_inside(depth, colour, old)
+        } else {
+            old
         }
+    }
+
+    /// A cell after a fragment came to its place, which passes the scissor test: alpha test, depth test, and then blending
+    /// and masks.
+    #[inline(always)]
+    #[tactic(auto, unfolding(crate::specs::Rows::cell_tested))]
+    pub(crate) fn put_inside(&self, depth: u16, colour: [u8; 4], old: Cell) -> Cell
+        requires state { IsFragmentState self.now }
+        ensures { result
+            ≡ cell_tested self.now (record { depth = depth; colour = colour }) old }
+    {
         if !self.passes_alpha(depth, colour) {
             return old;
         }

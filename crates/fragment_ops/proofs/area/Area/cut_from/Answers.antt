@@ -3,7 +3,7 @@ use Rattle.std.specs.Prelude.{int_le, int_lt, FitsSigned}
 use Rattle.std.proofs.lemmas.Int.{to_z-of_z}
 use Rattle.fragment_ops.specs.State.{number_at}
 use Rattle.fragment_ops.proofs.Scissors.{is_in_area-cut}
-use Rattle.fragment_ops.proofs.clear.Area.cut_from.Goals as goal
+use Rattle.fragment_ops.proofs.area.Area.cut_from.Goals as goal
 
 pub returns-clause-places : goal.returns-clause-places
 returns-clause-places c = λ column row in_width in_height.

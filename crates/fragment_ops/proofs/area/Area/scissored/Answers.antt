@@ -1,6 +1,6 @@
 use Rattle.std.proofs.Common.{◌∙◌}
 use Rattle.fragment_ops.proofs.Scissors.{passes_scissor-off, passes_scissor-on}
-use Rattle.fragment_ops.proofs.clear.Area.scissored.Goals as goal
+use Rattle.fragment_ops.proofs.area.Area.scissored.Goals as goal
 
 pub returns-then-state-clause-places : goal.returns-then-state-clause-places
 returns-then-state-clause-places c = λ column row in_width in_height.
