@@ -1,9 +1,9 @@
 -- The area of a draw: numbers that are cut from the sides of a frame, by the viewport and by the scissor rectangle.
-use Rattle.std.proofs.Common.{◌≡◌, ℕ, ◌<◌, ◌≤◌, ℤ, pos, ◌+ℤ◌, ◌≤ℤ◌, Bool, true, false, ◌&&◌, cond, List, refl, sym, ap, subst, ◌∙◌, w32, w64, to_z, of_z, arith}
+use Rattle.std.proofs.Common.{◌≡◌, ℕ, ◌<◌, ◌≤◌, ℤ, pos, ◌+ℤ◌, Bool, true, false, ◌&&◌, cond, refl, sym, ap, subst, ◌∙◌, w32, to_z, of_z, arith}
 use Rattle.std.specs.Prelude.{int_le, int_lt, FitsSigned}
 use Rattle.std.proofs.lemmas.Int.{ints, to_z-of_z}
 use Rattle.triangle_raster.specs.declared.vertex.Area.{Area}
-use Rattle.triangle_raster.specs.Vertex.{IsArea, IsFromTo}
+use Rattle.triangle_raster.specs.Vertex.{IsFromTo}
 use Rattle.fragment_ops.specs.Cell.{is_within, passes_scissor}
 use Rattle.fragment_ops.specs.State.{number_at}
 use Rattle.triangle_draw.specs.declared.drawing.Drawing.{Drawing}

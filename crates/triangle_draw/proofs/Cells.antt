@@ -1,15 +1,15 @@
 -- What the fragments of a row make of a cell, one after the other, is what the triangle makes of it.
-use Rattle.std.proofs.Common.{◌≡◌, ℕ, zero, suc, ◌+◌, ◌-◌, ◌<◌, ◌≤◌, ℤ, pos, negsuc, ◌+ℤ◌, ◌-ℤ◌, ◌<ℤ◌, ◌≤ℤ◌, Bool, true, false, ◌&&◌, cond, eqb, List, [], ◌∷◌, Option, Some, None, refl, sym, ap, ◌∙◌, inl, inr, arith}
+use Rattle.std.proofs.Common.{◌≡◌, ℕ, zero, suc, ◌-◌, ◌<◌, ℤ, pos, negsuc, ◌+ℤ◌, ◌-ℤ◌, ◌<ℤ◌, ◌≤ℤ◌, Bool, true, false, ◌&&◌, cond, eqb, List, [], Option, Some, None, refl, sym, ap, ◌∙◌, inl, inr, arith}
 use Rattle.std.specs.Prelude.{int_le, int_lt, if◌then◌else◌}
 use Rattle.std.specs.List.{cons_option}
-use Rattle.std.proofs.lemmas.Bool.{and_from, and_left, and_parts, and_right, cases_Bool, cond_both, cond-false, cond-true, ne_eqb}
+use Rattle.std.proofs.lemmas.Bool.{and_from, and_parts, cases_Bool, cond_both, cond-false, cond-true}
 use Rattle.std.proofs.lemmas.Bool.Decides.{nat_tests}
 use Rattle.std.proofs.lemmas.Int.{ints}
 use Rattle.triangle_raster.specs.declared.fragment.Fragment.{Fragment}
 use Rattle.triangle_raster.specs.declared.vertex.Area.{Area}
 use Rattle.triangle_raster.specs.declared.vertex.Vertex.{Vertex}
 use Rattle.triangle_raster.specs.Pixel.{delta_of, pixel_of}
-use Rattle.triangle_raster.specs.Row.{columns_of, count_of, fragments_of, numbers_from, pixels_at, triangle_of}
+use Rattle.triangle_raster.specs.Row.{count_of, fragments_of, numbers_from, pixels_at, triangle_of}
 use Rattle.triangle_raster.proofs.Ranges.{some_is_pixel}
 use Rattle.fragment_ops.specs.declared.cell.Cell.{Cell}
 use Rattle.fragment_ops.specs.declared.place.Place.{Place}
@@ -17,7 +17,7 @@ use Rattle.fragment_ops.specs.Cell.{cell_after_put, is_within, passes_scissor}
 use Rattle.fragment_ops.specs.Frame.{is_at, only_at}
 use Rattle.fragment_ops.proofs.Keeping.{fragment_keeps}
 use Rattle.triangle_draw.specs.declared.drawing.Drawing.{Drawing}
-use Rattle.triangle_draw.specs.Area.{IsAreaOf, is_in_area, placed}
+use Rattle.triangle_draw.specs.Area.{IsAreaOf, is_in_area}
 use Rattle.triangle_draw.specs.Drawing.{is_culled}
 use Rattle.triangle_draw.specs.Fragments.{IsKept, below_row, cell_after_all, cell_after_one}
 use Rattle.triangle_draw.specs.Triangle.{brought_by, cell_after_fragment, cell_after_triangle, rectangle_of}

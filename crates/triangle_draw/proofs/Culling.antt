@@ -1,5 +1,5 @@
 -- Triangles that are culled or flat leave the frame.
-use Rattle.std.proofs.Common.{◌≡◌, zero, suc, ℤ, pos, negsuc, ◌<ℤ◌, Bool, true, false, not, List, Option, None, refl, sym, ap, ◌∙◌, arith}
+use Rattle.std.proofs.Common.{◌≡◌, zero, suc, ℤ, pos, negsuc, ◌<ℤ◌, Bool, true, false, not, List, Option, None, refl, sym, ap, arith}
 use Rattle.std.specs.Prelude.{int_lt, IsTrue, ◌↔◌, if◌then◌else◌}
 use Rattle.std.proofs.lemmas.Bool.{cond_both, cond-true}
 use Rattle.std.proofs.lemmas.Int.{ints}
@@ -7,7 +7,6 @@ use Rattle.triangle_raster.specs.declared.fragment.Fragment.{Fragment}
 use Rattle.triangle_raster.specs.declared.vertex.Vertex.{Vertex}
 use Rattle.triangle_raster.specs.Pixel.{delta_of, is_covered, is_zero, kept_fragment, pixel_of, weights_of}
 use Rattle.fragment_ops.specs.declared.cell.Cell.{Cell}
-use Rattle.fragment_ops.specs.declared.place.Place.{Place}
 use Rattle.fragment_ops.specs.Cell.{is_within}
 use Rattle.fragment_ops.specs.Frame.{FrameView, frame_changed}
 use Rattle.fragment_ops.proofs.FrameChanges.{frame_changed-none}

@@ -1,15 +1,16 @@
 -- The first fragment of a list is put, or it is hidden: what the fragments after it make of the frame is what all made of it.
-use Rattle.std.proofs.Common.{◌≡◌, ℕ, suc, ◌<◌, ℤ, true, List, [], ◌∷◌, length, Option, Some, None, All, refl, sym, ap, subst, ◌∙◌, arith}
-use Rattle.std.proofs.lemmas.List.Elements.{All-get_or, All-nil}
+use Rattle.std.proofs.Common.{◌≡◌, ℕ, zero, suc, ◌<◌, ℤ, pos, ◌+ℤ◌, true, List, [], ◌∷◌, length, Some, None, All, refl, sym, ap, subst, ◌∙◌, arith}
+use Rattle.std.proofs.lemmas.List.Elements.{All-get_or}
 use Rattle.triangle_raster.specs.declared.fragment.Fragment.{Fragment}
 use Rattle.triangle_raster.specs.declared.fragment.Spot.{Spot}
-use Rattle.triangle_raster.specs.Row.{first, first_spot, rest, spot_of}
+use Rattle.triangle_raster.specs.Row.{first, first_spot, rest, run_of, spot_of}
 use Rattle.fragment_ops.specs.declared.cell.Cell.{Cell}
 use Rattle.fragment_ops.specs.declared.place.Place.{Place}
-use Rattle.fragment_ops.specs.Cell.{Fragment as Brought, cell_after_put}
-use Rattle.fragment_ops.specs.Frame.{FrameView, IsFrame, frame_changed, only_at}
+use Rattle.fragment_ops.specs.Cell.{cell_after_put}
+use Rattle.fragment_ops.specs.Frame.{FrameView, IsFrame, frame_changed, only_among, only_at}
 use Rattle.fragment_ops.specs.Hidden.{is_hidden}
-use Rattle.fragment_ops.proofs.FrameChanges.{frame_changed-hidden, frame_changed-none, frame_changed-twice}
+use Rattle.fragment_ops.proofs.FrameChanges.{frame_changed-alike, frame_changed-hidden, frame_changed-none, frame_changed-twice}
+use Rattle.fragment_ops.proofs.Runs.{only_among-more, only_among-none}
 use Rattle.triangle_draw.specs.declared.drawing.Drawing.{Drawing}
 use Rattle.triangle_draw.specs.Fragments.{cell_after_all, cell_after_one}
 use Rattle.triangle_draw.specs.Triangle.{brought_by, colour_of, depth_between}
@@ -95,3 +96,57 @@ shorter (g ∷ gs) spot is = omega arith
 pub at_end : (drawing : Drawing) (list : List Fragment) (frame : FrameView) → first_spot list ≡ None → frame ≡ frame_changed (cell_after_all drawing list) frame
 at_end drawing [] frame is = put_none drawing frame
 at_end drawing (g ∷ gs) frame is = cc
+
+-- what holds of each fragment of a run that isn't empty holds of the first
+pub run_first : (P : Fragment → Type 0) (f : Fragment) (count : ℕ) → 0 < count → All P (run_of f count) → P f
+run_first P f zero some all = absurd (omega arith)
+run_first P f (suc count) some all = first_all P (run_of f (suc count)) f all refl
+
+module _ (drawing : Drawing) where
+  -- what a fragment of a run makes of a cell, wherever it lies in it
+  abbrev put_of : Fragment → Place → Cell → Cell
+  put_of f place = cell_after_put place drawing.fragments (record { depth = depth_between drawing.depth_range f.depth; colour = colour_of f })
+
+  run_cells : (f : Fragment) (count : ℕ) (place : Place) (old : Cell) → only_among f.x f.y count (put_of f) place old ≡ cell_after_all drawing (run_of f count) place old
+  unfolding cell_after_all cell_after_one brought_by colour_of
+  run_cells f zero place old = only_among-none f.x f.y (put_of f) place old
+  run_cells f (suc count) place old =
+      sym (only_among-more f.x f.y (put_of f) place old count)
+      ∙ run_cells (record f { x = f.x +ℤ pos 1 }) count place (only_at f.x f.y (put_of f) place old)
+
+  -- the fragments of a run are put at once
+  pub run_put : (f : Fragment) (count : ℕ) (x y : ℤ) (depth : ℕ) (colour : List ℕ) (frame : FrameView) → x ≡ f.x → y ≡ f.y
+      → depth ≡ depth_between drawing.depth_range f.depth → colour ≡ colour_of f
+      → frame_changed (only_among x y count (λ place. cell_after_put place drawing.fragments (record { depth = depth; colour = colour }))) frame
+      ≡ frame_changed (cell_after_all drawing (run_of f count)) frame
+  run_put f count x y depth colour frame across upwards deep shade =
+      ap (λ (z : ℤ). frame_changed (only_among z y count (λ place. cell_after_put place drawing.fragments (record { depth = depth; colour = colour }))) frame) across
+      ∙ ap (λ (z : ℤ). frame_changed (only_among f.x z count (λ place. cell_after_put place drawing.fragments (record { depth = depth; colour = colour }))) frame) upwards
+      ∙ ap (λ (n : ℕ). frame_changed (only_among f.x f.y count (λ place. cell_after_put place drawing.fragments (record { depth = n; colour = colour }))) frame) deep
+      ∙ ap (λ (l : List ℕ). frame_changed (only_among f.x f.y count (λ place. cell_after_put place drawing.fragments (record { depth = depth_between drawing.depth_range f.depth; colour = l }))) frame) shade
+      ∙ frame_changed-alike (only_among f.x f.y count (put_of f)) (cell_after_all drawing (run_of f count)) frame (run_cells f count)
+
+  -- one fragment is put
+  pub one_is_put : (f : Fragment) (x y : ℤ) (depth : ℕ) (colour : List ℕ) (frame new : FrameView) → x ≡ f.x → y ≡ f.y
+      → depth ≡ depth_between drawing.depth_range f.depth → colour ≡ colour_of f → new ≡ put_at drawing x y depth colour frame
+      → new ≡ frame_changed (cell_after_one drawing f) frame
+  one_is_put f x y depth colour frame new across upwards deep shade is =
+      is ∙ put_at-same drawing frame across upwards deep shade ∙ one_put drawing f frame
+
+  -- the next fragment of a list is put
+  pub next_put : (list : List Fragment) (f : Fragment) (frame new : FrameView) → first list ≡ Some f → new ≡ frame_changed (cell_after_one drawing f) frame
+      → frame_changed (cell_after_all drawing (rest list)) new ≡ frame_changed (cell_after_all drawing list) frame
+  next_put [] f frame new found is = cc
+  next_put (g ∷ gs) f frame new found is =
+      let same : f ≡ g = cc in
+      put_more drawing g gs frame new (is ∙ ap (λ (h : Fragment). frame_changed (cell_after_one drawing h) frame) same)
+
+  -- a list without a next fragment is empty
+  pub at_last : (list : List Fragment) (frame : FrameView) → first list ≡ None → frame ≡ frame_changed (cell_after_all drawing list) frame
+  at_last [] frame none = put_none drawing frame
+  at_last (g ∷ gs) frame none = cc
+
+-- those after the next are fewer
+pub fewer : (list : List Fragment) (f : Fragment) → first list ≡ Some f → length (rest list) < length list
+fewer [] f is = cc
+fewer (g ∷ gs) f is = omega arith

@@ -13,7 +13,7 @@ is_in_area area place =
     (int_le area.left (pos place.column) && int_lt (pos place.column) area.right)
     && (int_le area.bottom (pos place.row) && int_lt (pos place.row) area.top)
 
--- the place in this column and this row
+-- the place in this column and this row, in pixels from the lower left corner; own
 abbrev pub placed : ℕ → ℕ → Place
 placed column row = record { column = column; row = row }
 

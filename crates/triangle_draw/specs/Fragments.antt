@@ -13,16 +13,16 @@ use Rattle.triangle_draw.specs.declared.drawing.Drawing.{Drawing}
 use Rattle.triangle_draw.specs.Drawing.{is_culled}
 use Rattle.triangle_draw.specs.Triangle.{brought_by}
 
--- the cell at a place after a fragment came to its own place
+-- the cell at a place after a fragment came to its own place; chapter 4
 unfoldable pub cell_after_one : Drawing → Fragment → Place → Cell → Cell
 cell_after_one drawing fragment = only_at fragment.x fragment.y (λ place. cell_after_put place drawing.fragments (brought_by drawing fragment))
 
--- the cell at a place after fragments came one after the other, each to its own place
+-- the cell at a place after fragments came one after the other, each to its own place; chapter 4, the order own
 unfoldable pub cell_after_all : Drawing → List Fragment → Place → Cell → Cell
 cell_after_all drawing [] place old = old
 cell_after_all drawing (fragment ∷ fragments) place old = cell_after_all drawing fragments place (cell_after_one drawing fragment place old)
 
--- a change of the rows below row y alone
+-- a change of the rows below row y alone, in pixels from the lower side; own
 unfoldable pub below_row : ℤ → (Place → Cell → Cell) → Place → Cell → Cell
 below_row y change place old = if int_lt (pos place.row) y then change place old else old
 

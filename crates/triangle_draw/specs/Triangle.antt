@@ -29,7 +29,7 @@ abbrev pub cell_after_fragment : Drawing → Option Fragment → Place → Cell 
 cell_after_fragment drawing None place old = old
 cell_after_fragment drawing (Some fragment) place old = cell_after_put place drawing.fragments (brought_by drawing fragment) old
 
--- a viewport as a rectangle of x, y, width and height
+-- a viewport as a rectangle of x, y, width and height, in pixels; section 2.10.1
 abbrev pub rectangle_of : View → List ℤ
 rectangle_of view = view.x ∷ view.y ∷ view.width ∷ view.height ∷ []
 

@@ -7,21 +7,22 @@ use fragment_ops::FragmentState;
 use triangle_raster::View;
 use vertex_stage::Stage;
 
-/// What a draw goes by. The calls that take one have as their condition that its arrays have elements of numbers that there
-/// are, that its viewport is within its bounds, that depths are 0 to 1, and that its fragments have a state.
+/// What a draw goes by besides memory. The calls that take one have as their condition that its arrays have elements of
+/// numbers that there are, that its viewport is within its bounds, that depths are 0 to 1, and that its fragments have a
+/// state. Chapters 2 to 4, that it is one value own.
 #[derive(Clone, Copy)]
 pub struct Drawing {
-    /// What vertices are made from (sections 2.7, 2.8, 2.10 and 2.12).
+    /// What vertices are made from: arrays, current values and matrices, 16.16 fixed (sections 2.7, 2.8, 2.10 and 2.12).
     pub stage: Stage,
-    /// The viewport, in pixels (section 2.10.1).
+    /// The viewport, in pixels from the lower left corner of the frame (section 2.10.1).
     pub view: View,
     /// The depths of the near and the far plane, 0 to 65536, 16.16 fixed (section 2.10.1).
     pub depth_range: [i32; 2],
     /// Whether faces are culled (section 3.5.1).
     pub culls: bool,
-    /// Which ones: FRONT, BACK or FRONT_AND_BACK (section 3.5.1).
+    /// Which ones by its number: FRONT 0x404, BACK 0x405 or FRONT_AND_BACK 0x408 (section 3.5.1).
     pub cull_face: u32,
-    /// The winding of front faces: CW or CCW (section 2.12.1).
+    /// The winding of front faces by its number: CW 0x900 or CCW 0x901 (section 2.12.1).
     pub front_face: u32,
     /// What becomes of fragments (chapter 4).
     pub fragments: FragmentState,

@@ -2,16 +2,16 @@
 
 ghost use Rattle.std.specs.Prelude.{◌≡◌, Some, All};
 ghost use Rattle.triangle_raster.specs.declared.fragment.Fragment.{Fragment};
-ghost use Rattle.triangle_raster.specs.Row.{first_spot, rest};
+ghost use Rattle.triangle_raster.specs.Row.{first_spot, rest, run_of};
 ghost use Rattle.fragment_ops.specs.Frame.{frame_changed};
 ghost use Rattle.fragment_ops.specs.State.{number_at, AreWithinOne, IsWithinOne};
 ghost use Rattle.triangle_draw.specs.Drawing.{IsDrawing};
-ghost use Rattle.triangle_draw.specs.Fragments.{cell_after_all};
+ghost use Rattle.triangle_draw.specs.Fragments.{cell_after_all, cell_after_one};
 ghost use Rattle.triangle_draw.specs.Triangle.{colour_of, depth_between};
 
 use crate::drawing::Drawing;
 use fragment_ops::{Frame, byte};
-use triangle_raster::{Fragment, Row, Spot};
+use triangle_raster::{Fragment, Row, Run, Spot};
 
 /// A depth between those of the near and the far plane: 0 becomes that of the near one, 65535 that of the far one.
 #[tactic(auto, unfolding(crate::specs::Triangle::depth_between))]
@@ -63,8 +63,24 @@ impl Drawing {
         }
     }
 
-    /// Puts the fragments of a row, one after the other.
-    pub(crate) fn put_row(&self, row: Row, frame: &mut Frame)
+    /// Puts the fragments of a run: depth and colour are made once.
+    fn put_run(&self, run: &Run, frame: &mut Frame)
+        requires drawing { IsDrawing self.now }
+        requires shades { All (λ f. AreWithinOne f.values) (run_of run.now.first run.now.count) }
+        ensures { frame.new ≡ frame_changed (cell_after_all self.now
+            (run_of run.now.first run.now.count)) frame.old }
+    {
+        if run.count == 0 {
+            return;
+        }
+        let first = &run.first;
+        let depth = depth_between(self.depth_range, first.depth);
+        let colour = colour_of(first);
+        frame.put_run(&self.fragments, first.x, first.y, run.count, depth, colour);
+    }
+
+    /// Puts the fragments of a row, one after the other, and leaves out those that the depth test fails.
+    fn put_seen(&self, row: Row, frame: &mut Frame)
         requires drawing { IsDrawing self.now }
         requires shades { All (λ f. AreWithinOne f.values) row }
         ensures { frame.new ≡ frame_changed (cell_after_all self.now row) frame.old }
@@ -72,6 +88,55 @@ impl Drawing {
         let mut left = row;
         while let Some(spot) = left.look() {
             self.put_first(spot, &mut left, frame);
+        }
+    }
+
+    /// Puts a fragment.
+    fn put_one(&self, fragment: &Fragment, frame: &mut Frame)
+        requires drawing { IsDrawing self.now }
+        requires shades { AreWithinOne fragment.now.values }
+        ensures { frame.new ≡ frame_changed (cell_after_one self.now fragment.now) frame.old }
+    {
+        let depth = depth_between(self.depth_range, fragment.depth);
+        let colour = colour_of(fragment);
+        frame.put(&self.fragments, fragment.x, fragment.y, depth, colour);
+    }
+
+    /// Puts the fragments of a row, one after the other, each with its values.
+    fn put_each(&self, row: Row, frame: &mut Frame)
+        requires drawing { IsDrawing self.now }
+        requires shades { All (λ f. AreWithinOne f.values) row }
+        ensures { frame.new ≡ frame_changed (cell_after_all self.now row) frame.old }
+    {
+        let mut left = row;
+        while let Some(fragment) = left.next() {
+            self.put_one(&fragment, frame);
+        }
+    }
+
+    /// Puts the fragments of a row: at once where they are alike, each where a look would cost as much as its values, and
+    /// else those that the depth test doesn't fail.
+    pub(crate) fn put_row(&self, row: Row, frame: &mut Frame)
+        requires drawing { IsDrawing self.now }
+        requires shades { All (λ f. AreWithinOne f.values) row }
+        ensures { frame.new ≡ frame_changed (cell_after_all self.now row) frame.old }
+    {
+        match row.run() {
+            Some(run) => self.put_run(&run, frame),
+            None => self.put_apart(row, frame),
+        }
+    }
+
+    /// Puts the fragments of a row that aren't known to be alike.
+    fn put_apart(&self, row: Row, frame: &mut Frame)
+        requires drawing { IsDrawing self.now }
+        requires shades { All (λ f. AreWithinOne f.values) row }
+        ensures { frame.new ≡ frame_changed (cell_after_all self.now row) frame.old }
+    {
+        if row.is_carried() {
+            self.put_each(row, frame)
+        } else {
+            self.put_seen(row, frame)
         }
     }
 }

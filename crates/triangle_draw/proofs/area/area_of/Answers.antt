@@ -1,7 +1,7 @@
-use Rattle.std.proofs.Common.{rules, ℤ, w32}
+use Rattle.std.proofs.Common.{rules, w32}
 use Rattle.std.specs.Prelude.{FitsSigned}
 use Rattle.fragment_ops.specs.State.{number_at}
-use Rattle.triangle_draw.proofs.Areas.{IsCut, area_scissored, area_unscissored, cut_passed}
+use Rattle.triangle_draw.proofs.Areas.{area_scissored, area_unscissored, cut_passed}
 use Rattle.triangle_draw.proofs.area.area_of.Goals as goal
 
 pub returns-then-drawing : goal.returns-then-drawing

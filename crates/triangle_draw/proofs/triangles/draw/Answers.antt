@@ -1,5 +1,4 @@
-use Rattle.std.proofs.Common.{◌≡◌, ℕ, ◌+◌, List, sym, ap, subst, ◌∙◌, arith}
-use Rattle.triangle_raster.specs.declared.vertex.Vertex.{Vertex}
+use Rattle.std.proofs.Common.{◌≡◌, ℕ, ◌+◌, sym, ap, subst, ◌∙◌, arith}
 use Rattle.fragment_ops.specs.Frame.{frame_changed}
 use Rattle.triangle_draw.specs.Area.{IsAreaOf}
 use Rattle.triangle_draw.specs.Draw.{cell_after_triangles}

@@ -1,4 +1,4 @@
-use Rattle.std.proofs.Common.{◌≡◌, ℤ, pos, ◌+ℤ◌, ap, ◌∙◌, int_lt, to_z, of_z, w32, w64, arith}
+use Rattle.std.proofs.Common.{◌≡◌, ℤ, pos, ap, ◌∙◌, int_lt, to_z, of_z, w32, arith}
 use Rattle.std.proofs.lemmas.Int.{ints}
 use Rattle.triangle_draw.proofs.Areas.{before_sum}
 use Rattle.triangle_draw.proofs.area.Span.cut_by.Goals as goal

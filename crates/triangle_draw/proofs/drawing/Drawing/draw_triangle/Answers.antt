@@ -1,4 +1,4 @@
-use Rattle.std.proofs.Common.{◌≡◌, pos, ◌<ℤ◌, refl, sym, subst, ◌∙◌}
+use Rattle.std.proofs.Common.{◌≡◌, pos, ◌<ℤ◌, refl, subst, ◌∙◌}
 use Rattle.std.specs.Prelude.{IsTrue, ◌↔◌}
 use Rattle.triangle_raster.specs.Pixel.{delta_of}
 use Rattle.triangle_raster.specs.Row.{Triangle}

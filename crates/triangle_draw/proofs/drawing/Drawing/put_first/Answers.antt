@@ -1,8 +1,7 @@
-use Rattle.std.proofs.Common.{◌≡◌, rules, sym, ap, ◌∙◌, ℤ, List, w32, to_z, of_z}
+use Rattle.std.proofs.Common.{rules, sym, ap, ◌∙◌, List, w32}
 use Rattle.std.proofs.lemmas.Int.{to_z-of_z}
-use Rattle.std.specs.Prelude.{FitsSigned, Some}
+use Rattle.std.specs.Prelude.{FitsSigned}
 use Rattle.triangle_raster.specs.declared.fragment.Fragment.{Fragment}
-use Rattle.triangle_raster.specs.Row.{first, rest}
 use Rattle.fragment_ops.specs.Frame.{frame_changed}
 use Rattle.fragment_ops.specs.State.{AreWithinOne}
 use Rattle.triangle_draw.specs.Fragments.{cell_after_all}

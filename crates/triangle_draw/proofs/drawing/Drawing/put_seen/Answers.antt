@@ -1,11 +1,11 @@
-use Rattle.std.proofs.Common.{◌≡◌, List, All, sym, ap, subst, ◌∙◌}
+use Rattle.std.proofs.Common.{List, All, sym, ap, subst, ◌∙◌}
 use Rattle.triangle_raster.specs.declared.fragment.Fragment.{Fragment}
 use Rattle.triangle_raster.specs.Row.{rest}
 use Rattle.fragment_ops.specs.Frame.{frame_changed}
 use Rattle.fragment_ops.specs.State.{AreWithinOne}
 use Rattle.triangle_draw.specs.Fragments.{cell_after_all}
 use Rattle.triangle_draw.proofs.Putting.{at_end, rest_all}
-use Rattle.triangle_draw.proofs.drawing.Drawing.put_row.Goals as goal
+use Rattle.triangle_draw.proofs.drawing.Drawing.put_seen.Goals as goal
 
 pub loop-spot-preserved : goal.loop-spot-preserved
 loop-spot-preserved c =
