@@ -5,7 +5,7 @@ use gl_words::GlError;
 /// What a call needs beyond the private state; own.
 #[derive(Clone, Copy, Debug, PartialEq, Eq)]
 pub enum Plan {
-    /// Nothing: it has this error, and only records it.
+    /// Nothing: it has this error, and only records it (section 2.5).
     Fault(GlError),
     /// Nothing: it is answered with this number of tracked state, and sets nothing (section 6.1).
     Known(i64),
@@ -14,8 +14,8 @@ pub enum Plan {
     Query,
     /// The pixels of the frame: it is answered with them, and sets nothing (section 4.3.1).
     Read,
-    /// The pixels of the frame: it changes them, sets nothing else, and isn't answered.
+    /// The pixels of the frame: it changes them, sets nothing else, and isn't answered (sections 2.8 and 4.2.3).
     Draw,
-    /// Nothing: it sets private state, or does nothing, and isn't answered.
+    /// Nothing: it sets private state, or does nothing, and isn't answered (chapters 2 to 5).
     Local,
 }

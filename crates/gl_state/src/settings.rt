@@ -16,11 +16,17 @@ use gl_words::Call;
 pub struct Capabilities {
     /// Of unit 0 and of unit 1 (section 3.7.12).
     pub texture_2d: [bool; 2],
+    /// Section 3.5.1.
     pub cull_face: bool,
+    /// Section 4.1.4.
     pub alpha_test: bool,
+    /// Section 4.1.7.
     pub blend: bool,
+    /// Kept and told, and it changes no pixel (section 4.1.8, that own).
     pub dither: bool,
+    /// Section 4.1.6.
     pub depth_test: bool,
+    /// Section 4.1.2.
     pub scissor_test: bool,
 }
 
@@ -90,6 +96,7 @@ pub struct Settings {
     pub dest_factor: u32,
     /// Red, green, blue and alpha (section 4.2.2).
     pub colour_mask: [bool; 4],
+    /// Whether depths are written (section 4.2.2).
     pub depth_mask: bool,
     /// Red, green, blue and alpha, 0 to 65536, 16.16 fixed (section 4.2.3).
     pub clear_colour: [i32; 4],
