@@ -87,8 +87,8 @@ impl Soft {
         self.state.tracked()
     }
 
-    /// What a call with its plan replies, as the own state shows it just before the call. Only the reply of a list takes
-    /// memory (sections 2.5, 4.3.1 and 6.1).
+    /// What a call with its plan replies that is answered, as the own state shows it just before the call. Only the reply of a
+    /// list takes memory (sections 2.5, 4.3.1 and 6.1).
     fn reply(&self, plan: Plan, call: &Call, event: &EventReply) -> Result<Reply, NoMemory>
         requires plan { plan ≡ plan_of self.now.state call.now }
         ensures reply { IfOk result (λ reply. replied reply
@@ -96,9 +96,8 @@ impl Soft {
         ensures memory { IsErr result → replies_list (fault_in plan) call.now ≡ true }
     {
         match plan {
-            Plan::Known(_) | Plan::Query => self.numbers(plan, call, event),
             Plan::Read => self.read(call),
-            _ => Ok(Reply::Nothing),
+            _ => self.numbers(plan, call, event),
         }
     }
 
@@ -153,7 +152,28 @@ impl Soft {
         self.state.finish(plan, call, memory, &EventReply);
     }
 
-    /// Carries a call out on a memory, and gives its reply. Want of memory leaves the driver as it was.
+    /// Carries a call out whose plan is to answer it. Want of memory leaves the driver as it was.
+    #[tactic(auto, unfolding(crate::specs::Own::own_step))]
+    fn answer<M: Memory>(&mut self, plan: Plan, call: &Call, memory: &M) -> Result<Reply, NoMemory>
+        requires plan { plan ≡ plan_of self.old.state call.now }
+        ensures ok { IfOk result
+            (λ reply. OwnSteps self.old call.now (M.segments memory.now) self.new (replied reply)) }
+        ensures err { OnErr result (self.new ≡ self.old) }
+        ensures memory { IsErr result
+            → replies_list (fault_of self.old.state.tracked call.now) call.now ≡ true }
+        ensures unanswered { is_answering call.now ≡ false → IsOk result }
+    {
+        match self.reply(plan, call, &EventReply) {
+            Ok(reply) => {
+                self.step(plan, call, memory);
+                Ok(reply)
+            }
+            Err(refused) => Err(refused),
+        }
+    }
+
+    /// Carries a call out on a memory, and gives its reply: what it asks for is looked up only where it asks. Want of memory
+    /// leaves the driver as it was.
     #[tactic(auto, unfolding(crate::specs::Own::own_step))]
     fn carry_out<M: Memory>(&mut self, call: &Call, memory: &M) -> Result<Reply, NoMemory>
         ensures ok { IfOk result
@@ -165,12 +185,12 @@ impl Soft {
         ensures unanswered { is_answering call.now ≡ false → IsOk result }
     {
         let plan = self.state.plan(call);
-        match self.reply(plan, call, &EventReply) {
-            Ok(reply) => {
+        match plan {
+            Plan::Known(_) | Plan::Query | Plan::Read => self.answer(plan, call, memory),
+            _ => {
                 self.step(plan, call, memory);
-                Ok(reply)
+                Ok(Reply::Nothing)
             }
-            Err(refused) => Err(refused),
         }
     }
 }

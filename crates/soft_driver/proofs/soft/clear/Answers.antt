@@ -3,7 +3,7 @@ use Rattle.fragment_ops.specs.Cell.{cell_after_clear}
 use Rattle.fragment_ops.specs.Frame.{FrameView, frame_changed}
 use Rattle.fragment_ops.specs.declared.state.FragmentState.{FragmentState}
 use Rattle.gl_state.specs.Settings.{fragment_state_of}
-use Rattle.soft_driver.specs.Own.{clears_colour, clears_depth}
+use Rattle.soft_driver.specs.Own.{clears_colour}
 use Rattle.soft_driver.proofs.soft.clear.Goals as goal
 
 pub returns : goal.returns

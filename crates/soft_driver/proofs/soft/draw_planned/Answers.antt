@@ -1,4 +1,4 @@
-use Rattle.std.proofs.Common.{ℤ, pos, ◌≤ℤ◌, rules, arith, subst, sym, w32, SFits}
+use Rattle.std.proofs.Common.{ℤ, pos, ◌≤ℤ◌, rules, subst, sym, w32, SFits}
 use Rattle.std.proofs.lemmas.Int.{to_z-of_z}
 use Rattle.soft_driver.proofs.Drawings.{drawn_are_few}
 use Rattle.soft_driver.proofs.soft.draw_planned.Goals as goal
