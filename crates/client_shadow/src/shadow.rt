@@ -1,6 +1,6 @@
 //! The tracked state of a context, as the layer knows it. It never sees a driver, and takes no memory.
 
-ghost use Rattle.std.specs.Prelude.{◌≡◌, ◌≢◌, ◌≤◌, ◌↔◌, ℕ, List, None, IsNone, length};
+ghost use Rattle.std.specs.Prelude.{◌≡◌, ◌≢◌, ◌≤◌, ◌↔◌, ℕ, List, [], None, IsNone, length};
 ghost use Rattle.gl_words.specs.Call.{is_answering, IsInRange};
 ghost use Rattle.gl_words.specs.Table.{IsRowOf};
 ghost use Rattle.gl_memory.specs.Segment.{Segment};
@@ -65,15 +65,17 @@ impl Shadow {
         self.tracked.note(call, memory, fault);
     }
 
-    /// Looks at a call on client memory, with batches of so many slots: all that the layer needs to know of it; own.
+    /// Looks at a call on client memory, with batches of so many slots: all that the layer needs to know of it. The pieces
+    /// that are captured for a call that is put off are put into the list, which no call touches that reads no memory; own.
     #[tactic(auto, unfolding(crate::specs::Class::class_of, crate::specs::Class::captured_for))]
-    pub fn look(&self, call: &Call, memory: &ClientMemory, slots: u32) -> Look
+    pub fn look(&self, call: &Call, memory: &ClientMemory, slots: u32, pieces: &mut Pieces) -> Look
+        requires empty { pieces.old ≡ [] }
         ensures class { class_in result.becomes
             ≡ class_of self.now call.now (memory_of memory.now) slots }
         ensures number { number_in result.becomes ≡ number_asked self.now call.now }
-        ensures pieces { Captures result.becomes
+        ensures pieces { Captures result.becomes pieces.new
             (pieces_of self.now call.now (memory_of memory.now)) }
-        ensures heading { HasHeading result.becomes call.now memory.now }
+        ensures heading { HasHeading result.becomes call.now pieces.new memory.now }
         ensures asks { asks_in result.becomes ≡ is_answering call.now }
         ensures fault { result.fault ≡ fault_of self.now call.now }
         ensures in_range { IsInRange call.now }
@@ -85,7 +87,7 @@ impl Shadow {
                 fault: None,
             },
             Finding::Fault(fault) => Look {
-                becomes: self.wait_or_defer(call, row, memory, slots, fault),
+                becomes: self.wait_or_defer(call, row, memory, slots, fault, pieces),
                 fault,
             },
         }
@@ -101,15 +103,18 @@ impl Shadow {
         memory: &ClientMemory,
         slots: u32,
         fault: Option<GlError>,
+        pieces: &mut Pieces,
     ) -> Becomes
         requires row { IsRowOf row.now call.now }
         requires fault { fault ≡ fault_of self.now call.now }
         requires few { length row.now.kinds.now ≤ 9 }
+        requires empty { pieces.old ≡ [] }
         ensures class { class_in result ≡ class_unasked call.now
             (slots_of (captured_for self.now call.now (memory_of memory.now))) slots }
         ensures number { number_in result ≡ None }
-        ensures pieces { Captures result (pieces_of self.now call.now (memory_of memory.now)) }
-        ensures heading { HasHeading result call.now memory.now }
+        ensures pieces { Captures result pieces.new
+            (pieces_of self.now call.now (memory_of memory.now)) }
+        ensures heading { HasHeading result call.now pieces.new memory.now }
         ensures asks { asks_in result ≡ is_answering call.now }
     {
         if row.answering || is_finish(call) {
@@ -117,12 +122,12 @@ impl Shadow {
                 asks: row.answering,
             };
         }
-        let pieces = pieces(&self.tracked, call, memory, fault);
-        let heading = heading_of(row, &pieces);
+        find_pieces(&self.tracked, call, memory, fault, pieces);
+        let heading = heading_of(row, pieces);
         if u64::from(slots) < heading.slots {
             return Becomes::Sync { asks: false };
         }
-        Becomes::Defer { pieces, heading }
+        Becomes::Defer { heading }
     }
 
     /// The number that a call asks for (section 6.1). None exactly where its class isn't Answer.
@@ -138,35 +143,53 @@ impl Shadow {
     pub fn class(&self, call: &Call, memory: &ClientMemory, slots: u32) -> Class
         ensures { result ≡ class_of self.now call.now (memory_of memory.now) slots }
     {
-        self.look(call, memory, slots).becomes.class()
+        let mut pieces = Pieces::new();
+        self.look(call, memory, slots, &mut pieces).becomes.class()
     }
 }
 
-/// The pieces of client memory that are captured for a call, given its error: none where it has one (section 2.5).
+/// Puts the pieces of client memory that are captured for a call, given its error, into an empty list: none where it has one
+/// (section 2.5).
 #[tactic(auto, unfolding(crate::specs::Class::pieces_of))]
-fn pieces(tracked: &Tracked, call: &Call, memory: &ClientMemory, fault: Option<GlError>) -> Pieces
+fn find_pieces(
+    tracked: &Tracked,
+    call: &Call,
+    memory: &ClientMemory,
+    fault: Option<GlError>,
+    pieces: &mut Pieces,
+)
     requires sound { IsSound tracked.now }
     requires fault { fault ≡ fault_of tracked.now call.now }
-    ensures { result ≡ pieces_of tracked.now call.now (memory_of memory.now) }
+    requires empty { pieces.old ≡ [] }
+    ensures { pieces.new ≡ pieces_of tracked.now call.now (memory_of memory.now) }
 {
     match fault {
-        Some(_) => Pieces::new(),
-        None => pieces_without_fault(tracked, call, memory),
+        Some(_) => {}
+        None => find_pieces_without_fault(tracked, call, memory, pieces),
     }
 }
 
-/// The pieces of client memory for a call without an error (sections 2.8 and 2.10.2).
+/// Puts the pieces of client memory for a call without an error into an empty list (sections 2.8 and 2.10.2). Only a draw and
+/// a matrix touch it.
 #[tactic(auto, unfolding(crate::specs::Class::pieces_without_fault))]
-fn pieces_without_fault(tracked: &Tracked, call: &Call, memory: &ClientMemory) -> Pieces
+fn find_pieces_without_fault(
+    tracked: &Tracked,
+    call: &Call,
+    memory: &ClientMemory,
+    pieces: &mut Pieces,
+)
     requires sound { IsSound tracked.now }
-    ensures { result ≡ pieces_without_fault tracked.now call.now (memory_of memory.now) }
+    requires empty { pieces.old ≡ [] }
+    ensures { pieces.new ≡ pieces_without_fault tracked.now call.now (memory_of memory.now) }
 {
     match call {
-        Call::DrawArrays { first, count, .. } => pieces_of_draw(tracked, *first, *count, memory),
-        Call::LoadMatrixx { matrix } | Call::MultMatrixx { matrix } => {
-            pieces_of_matrix(*matrix, memory)
+        Call::DrawArrays { first, count, .. } => {
+            *pieces = pieces_of_draw(tracked, *first, *count, memory);
         }
-        _ => Pieces::new(),
+        Call::LoadMatrixx { matrix } | Call::MultMatrixx { matrix } => {
+            *pieces = pieces_of_matrix(*matrix, memory);
+        }
+        _ => {}
     }
 }
 
