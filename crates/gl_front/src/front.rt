@@ -161,29 +161,31 @@ impl<D: Machine, R: RailState<D>, H> Core<D, R, H> {
         if self.refused {
             return Err(AllocError);
         }
-        let look = self.look(call);
-        match &look.becomes {
-            Becomes::Defer { pieces, heading } => {
-                self.put_off(rt, wait, call, pieces, *heading, look.fault);
+        let mut pieces = Pieces::new();
+        let look = self.look(call, &mut pieces);
+        match look.becomes {
+            Becomes::Defer { heading } => {
+                self.put_off(rt, wait, call, &pieces, heading, look.fault);
                 Ok(None)
             }
-            Becomes::Answer(number) => Ok(Some(self.answer(call, *number))),
-            Becomes::Sync { asks } => self.synchronise(rt, wait, call, *asks, look.fault),
+            Becomes::Answer(number) => Ok(Some(self.answer(call, number))),
+            Becomes::Sync { asks } => self.synchronise(rt, wait, call, asks, look.fault),
         }
     }
 
-    /// Looks at a call, once for all that is done with it.
-    fn look(&self, call: &Call) -> Look
+    /// Looks at a call, once for all that is done with it, and puts what it finds of client memory into an empty list.
+    fn look(&self, call: &Call, pieces: &mut Pieces) -> Look
+        requires empty { pieces.old ≡ [] }
         ensures class { class_in result.becomes ≡ class_at self.now call.now }
         ensures number { number_in result.becomes ≡ number_asked self.now.tracked call.now }
-        ensures pieces { Captures result.becomes
+        ensures pieces { Captures result.becomes pieces.new
             (pieces_of self.now.tracked call.now (memory_of self.now.memory)) }
-        ensures heading { HasHeading result.becomes call.now self.now.memory }
+        ensures heading { HasHeading result.becomes call.now pieces.new self.now.memory }
         ensures asks { asks_in result.becomes ≡ is_answering call.now }
         ensures fault { result.fault ≡ fault_of self.now.tracked call.now }
         ensures in_range { IsInRange call.now }
     {
-        self.shadow.look(call, &self.memory, self.slots())
+        self.shadow.look(call, &self.memory, self.slots(), pieces)
     }
 
     /// Answers a call with the number that is known, and writes it. Such a call leaves the tracked state.
@@ -215,10 +217,11 @@ impl<D: Machine, R: RailState<D>, H> Core<D, R, H> {
             self.old self.new call.now Nothing }
         ensures rises { KeepsCount R.sent self.old self.new }
     {
-        let look = self.look(call);
-        match &look.becomes {
-            Becomes::Defer { pieces, heading } => {
-                self.put_off(rt, wait, call, pieces, *heading, look.fault);
+        let mut pieces = Pieces::new();
+        let look = self.look(call, &mut pieces);
+        match look.becomes {
+            Becomes::Defer { heading } => {
+                self.put_off(rt, wait, call, &pieces, heading, look.fault);
             }
             Becomes::Answer(_) | Becomes::Sync { .. } => unreachable!(),
         }
