@@ -1,0 +1,5 @@
+pub mod Tables
+pub mod FreeNames
+pub mod UsedNames
+pub mod Histories
+pub mod Parts

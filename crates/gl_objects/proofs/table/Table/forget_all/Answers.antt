@@ -1,0 +1,20 @@
+use Rattle.std.proofs.Common.{rules, ◌≡◌, ◌<◌, ℕ, [], ◌∷◌, length, take, slice_index, sym, ap, ◌∙◌}
+use Rattle.std.proofs.lemmas.List.{take_more}
+use Rattle.gl_objects.specs.Table.{without}
+use Rattle.gl_objects.proofs.Tables.{without-none, without-more}
+use Rattle.gl_objects.proofs.table.Table.forget_all.Goals as goal
+
+pub loop-name-init : goal.loop-name-init
+loop-name-init g c = sym (without-none c.args.self.now)
+
+pub loop-name-preserved : goal.loop-name-preserved
+loop-name-preserved g c =
+    let name = slice_index c.args.names.now c.loop-name.name-index in
+    let before = take c.loop-name.name-index c.args.names.now in
+    let is : c.from.result ≡ name = search (rules, c.from.ensures) in
+    let there : c.loop-name.name-index < length c.args.names.now = c.loop-name-test.true in
+    c.forget.ensures
+    ∙ ap (λ (n : ℕ). without (n ∷ []) c.loop-name.self) is
+    ∙ ap (without (name ∷ [])) c.loop-name.invariant
+    ∙ sym (without-more before name c.args.self.now)
+    ∙ ap (λ names. without names c.args.self.now) (sym (take_more c.args.names.now c.loop-name.name-index 0 there))

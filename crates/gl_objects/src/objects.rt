@@ -1,0 +1,192 @@
+//! The objects that contexts share, and what an event makes of them.
+
+ghost use Rattle.std.specs.Prelude.{◌≡◌, true, false, None, IfOk, OnOk, OnErr, IsOk};
+ghost use Rattle.gl_objects.specs.Event.{IsEvent, is_asking};
+ghost use Rattle.gl_objects.specs.Step.{no_objects, step, reply_of, byte_in};
+
+use crate::event::Event;
+use crate::kind::Kind;
+use crate::lists::Names;
+use crate::named::Named;
+use crate::reply::{EventReply, told};
+use crate::store::Store;
+use crate::table::Table;
+use crate::texture::Texture;
+use gl_words::GlError;
+use std::alloc::{AllocError as NoMemory, Global};
+use std::marker::Model;
+
+/// The most names of a kind that are in use after some were given; own.
+const MOST_NAMES: u64 = 65536;
+
+/// The first of the names that default textures have; own.
+const DEFAULT_TEXTURE: u64 = 4294967296;
+
+/// All objects. Contracts see the names of each kind that are in use, with what they stand for.
+#[derive(Drop)]
+pub struct Objects {
+    buffers: Table<Store>,
+    textures: Table<Texture>,
+    alloc: Global,
+}
+
+impl Model for Objects {
+    ghost use Rattle.gl_objects.specs.View.{ObjectsView};
+
+    ghost Value = { ObjectsView };
+
+    ghost view = { λ o. record { buffers = o.buffers; textures = o.textures } };
+}
+
+impl Objects {
+    /// No names in use, and the default texture of each context. It takes no memory, and keeps its allocator.
+    pub fn new(alloc: Global) -> Objects
+        ensures { result ≡ no_objects }
+    {
+        Objects {
+            buffers: Table::new(alloc),
+            textures: Table::new(alloc),
+            alloc,
+        }
+    }
+
+    /// Applies an event. After NoMemory the objects are as they were. `Is` and `Use` take no memory and are never refused.
+    pub fn apply(&mut self, event: &Event) -> Result<EventReply, NoMemory>
+        requires event { IsEvent event.now }
+        ensures reply { IfOk result (λ reply. reply ≡ reply_of self.old event.now) }
+        ensures ok { OnOk result (self.new ≡ step self.old event.now) }
+        ensures err { OnErr result (self.new ≡ self.old) }
+        ensures asks { is_asking event.now ≡ true → IsOk result }
+    {
+        match event {
+            Event::Bind { kind, name } => self.bind(*kind, *name),
+            Event::BufferBytes { name, bytes } => self.buffer_bytes(*name, bytes.as_slice()),
+            Event::BufferPart {
+                name,
+                offset,
+                bytes,
+            } => Ok(self.buffer_part(*name, *offset, bytes.as_slice())),
+            Event::Gen { kind, n } => self.generate(*kind, *n),
+            Event::Delete { kind, names } => Ok(self.delete(*kind, names.as_slice())),
+            Event::Is { kind, name } => Ok(self.is(*kind, *name)),
+            Event::Use { .. } => Ok(told(self.alloc, None, false)),
+        }
+    }
+
+    /// The byte of a buffer's store at a place. 0 past the store's end, and where the name is that of no buffer.
+    pub fn buffer_byte(&self, name: u32, at: u64) -> u8
+        ensures { result ≡ byte_in self.now name at }
+    {
+        self.buffers.byte(u64::from(name), at as usize)
+    }
+
+    fn bind(&mut self, kind: Kind, name: u64) -> Result<EventReply, NoMemory>
+        ensures reply { IfOk result (λ reply. reply ≡ reply_of self.old (Event.Bind kind name)) }
+        ensures ok { OnOk result (self.new ≡ step self.old (Event.Bind kind name)) }
+        ensures err { OnErr result (self.new ≡ self.old) }
+    {
+        match kind {
+            Kind::Buffer => {
+                self.buffers.bind(name, Store::new(self.alloc))?;
+                Ok(told(self.alloc, None, false))
+            }
+            Kind::Texture => {
+                if name >= DEFAULT_TEXTURE && name < DEFAULT_TEXTURE + 4 {
+                    return Ok(told(self.alloc, None, false));
+                }
+                self.textures.bind(name, Texture)?;
+                Ok(told(self.alloc, None, false))
+            }
+        }
+    }
+
+    fn buffer_bytes(&mut self, name: u32, bytes: &[u8]) -> Result<EventReply, NoMemory>
+        ensures reply { IfOk result (λ reply. reply
+            ≡ reply_of self.old (Event.BufferBytes name bytes.now)) }
+        ensures ok { OnOk result (self.new ≡ step self.old (Event.BufferBytes name bytes.now)) }
+        ensures err { OnErr result (self.new ≡ self.old) }
+    {
+        match self
+            .buffers
+            .bytes_fault(u64::from(name), bytes.len() as u64)
+        {
+            Some(fault) => Ok(told(self.alloc, Some(fault), false)),
+            None => {
+                let store = Store::copied(self.alloc, bytes)?;
+                self.buffers.put(u64::from(name), Named::Object(store))?;
+                Ok(told(self.alloc, None, false))
+            }
+        }
+    }
+
+    fn buffer_part(&mut self, name: u32, offset: u32, bytes: &[u8]) -> EventReply
+        ensures reply { result ≡ reply_of self.old (Event.BufferPart name offset bytes.now) }
+        ensures ok { self.new ≡ step self.old (Event.BufferPart name offset bytes.now) }
+    {
+        let name = u64::from(name);
+        match self
+            .buffers
+            .part_fault(name, u64::from(offset), bytes.len() as u64)
+        {
+            Some(fault) => told(self.alloc, Some(fault), false),
+            None => {
+                self.buffers.write_part(name, offset as usize, bytes);
+                told(self.alloc, None, false)
+            }
+        }
+    }
+
+    fn generate(&mut self, kind: Kind, n: u32) -> Result<EventReply, NoMemory>
+        ensures reply { IfOk result (λ reply. reply ≡ reply_of self.old (Event.Gen kind n)) }
+        ensures ok { OnOk result (self.new ≡ step self.old (Event.Gen kind n)) }
+        ensures err { OnErr result (self.new ≡ self.old) }
+    {
+        match kind {
+            Kind::Buffer => {
+                if self.buffers.len() as u64 + u64::from(n) > MOST_NAMES {
+                    return Ok(told(self.alloc, Some(GlError::OutOfMemory), false));
+                }
+                let names = self.buffers.generate(self.alloc, n)?;
+                Ok(named_reply(names))
+            }
+            Kind::Texture => {
+                if self.textures.len() as u64 + u64::from(n) > MOST_NAMES {
+                    return Ok(told(self.alloc, Some(GlError::OutOfMemory), false));
+                }
+                let names = self.textures.generate(self.alloc, n)?;
+                Ok(named_reply(names))
+            }
+        }
+    }
+
+    fn delete(&mut self, kind: Kind, names: &[u32]) -> EventReply
+        ensures reply { result ≡ reply_of self.old (Event.Delete kind names.now) }
+        ensures ok { self.new ≡ step self.old (Event.Delete kind names.now) }
+    {
+        match kind {
+            Kind::Buffer => self.buffers.forget_all(names),
+            Kind::Texture => self.textures.forget_all(names),
+        }
+        told(self.alloc, None, false)
+    }
+
+    fn is(&self, kind: Kind, name: u32) -> EventReply
+        ensures { result ≡ reply_of self.now (Event.Is kind name) }
+    {
+        match kind {
+            Kind::Buffer => told(self.alloc, None, self.buffers.is_object(u64::from(name))),
+            Kind::Texture => told(self.alloc, None, self.textures.is_object(u64::from(name))),
+        }
+    }
+}
+
+/// A reply with names that were given.
+fn named_reply(names: Vec<u32>) -> EventReply
+    ensures { result ≡ record { fault = None; names = names.items; truth = false } }
+{
+    EventReply {
+        fault: None,
+        names: Names::new(names),
+        truth: false,
+    }
+}

@@ -1,0 +1,5 @@
+//! Tests of objects and events.
+#![tactic(auto)]
+
+#[cfg(test)]
+mod events;
