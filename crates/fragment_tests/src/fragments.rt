@@ -6,6 +6,7 @@ ghost use Rattle.fragment_ops.specs.State.{comparisons, destinations, sources, I
 
 use fragment_ops::laws::{blend_law, frame_law, keeping_law};
 use fragment_ops::{Cell, FragmentState, Frame};
+use std::alloc::{AllocError as NoMemory, Global};
 use std::test::Fail;
 
 /// The state of a context at the start, with a clear colour of ones.
@@ -354,6 +355,89 @@ fn masks_keep_what_they_mask(rt: HostRuntime) -> Result<(), Fail> {
             depth: 65535,
         };
         assert_eq!(rt; frame.cells(), [wanted].as_slice());
+    }
+    Ok(())
+}
+
+/// Runs in a frame of 4 by 3, each by its first column, its row and how many places, with what it leaves.
+const RUNS: [(i32, i32, u32, &[u8]); 9] = [
+    (1, 1, 2, b"..../.##./...."),
+    (-2, 0, 4, b"..../..../##.."),
+    (2, 2, 4294967295, b"..##/..../...."),
+    (-2147483648, 1, 4294967295, b"..../####/...."),
+    (-3, 1, 3, b"..../..../...."),
+    (4, 1, 3, b"..../..../...."),
+    (0, -1, 4, b"..../..../...."),
+    (0, 3, 4, b"..../..../...."),
+    (1, 1, 0, b"..../..../...."),
+];
+
+/// States by which runs are put: the first, with tests, with masks, with blending, and with the scissor test.
+fn state_of_run(number: u32) -> FragmentState
+    ensures { IsFragmentState result }
+{
+    match number {
+        0 => first_state(),
+        1 => tested(true, false, 0x204),
+        2 => tested(true, false, 0x201),
+        3 => tested(false, true, 0x203),
+        4 => masked([true, false, true, true], true, true),
+        5 => blending(0x302, 0x303),
+        6 => blending(0x306, 0x301),
+        7 => scissored([1, 0, 2, 3]),
+        _ => scissored([2, 1, 9, 1]),
+    }
+}
+
+/// A frame of 4 by 3 in which no two cells are alike.
+fn uneven_frame(alloc: Global) -> Result<Frame, NoMemory> {
+    let state = tested(false, true, 0x207);
+    let mut frame = Frame::new(alloc, 4, 3)?;
+    for y in 0..3u8 {
+        for x in 0..4u8 {
+            let depth = 98 + u16::from(x);
+            frame.put(&state, i32::from(x), i32::from(y), depth, [x, y, 7, 200]);
+        }
+    }
+    Ok(frame)
+}
+
+#[test]
+fn a_run_is_its_fragments_one_by_one(rt: HostRuntime) -> Result<(), Fail> {
+    for (x, y, count, picture) in RUNS {
+        for number in 0..9 {
+            let state = state_of_run(number);
+            let mut at_once = uneven_frame(rt.alloc())?;
+            at_once.put_run(&state, x, y, count, 100, [90, 180, 30, 150]);
+            let mut in_turn = uneven_frame(rt.alloc())?;
+            let end = i64::from(x) + i64::from(count);
+            for column in -1..5 {
+                if x <= column && i64::from(column) < end {
+                    in_turn.put(&state, column, y, 100, [90, 180, 30, 150]);
+                }
+            }
+            assert_eq!(rt;
+                at_once.cells(),
+                in_turn.cells(),
+                "{x} {y} {count} {number}"
+            );
+        }
+        let mut covered = Frame::new(rt.alloc(), 4, 3)?;
+        covered.put_run(&first_state(), x, y, count, 0, [255; 4]);
+        for row in 0..3u32 {
+            for column in 0..4u32 {
+                let wanted = if drawn(picture, column, row) {
+                    [255; 4]
+                } else {
+                    [0; 4]
+                };
+                assert_eq!(rt;
+                    covered.pixel(column as i32, row as i32),
+                    wanted,
+                    "{x} {y} {count}"
+                );
+            }
+        }
     }
     Ok(())
 }

@@ -3,7 +3,7 @@
 use client_shadow::laws::shadow_law;
 use client_shadow::*;
 use driver_trait::{Driver, Recorder, Reply};
-use gl_memory::ClientMemory;
+use gl_memory::{ClientMemory, Pieces};
 use gl_words::{Call, GlError, call_from, shape_of_name};
 use std::alloc::AllocError as NoMemory;
 use std::test::Fail;
@@ -78,7 +78,7 @@ fn a_shadow_answers_as_the_driver_does(rt: HostRuntime) -> Result<(), Fail> {
             return Err(Fail::new("no such call"));
         };
         assert_eq!(rt; shadow.answer(&call), number);
-        let look = shadow.look(&call, &memory, 16);
+        let look = shadow.look(&call, &memory, 16, &mut Pieces::new());
         assert_eq!(rt; number_of(&look.becomes), number);
         assert_eq!(rt; look.fault, fault);
         let reply = carried_out(&rt, &mut recorder, &call, &memory)?;
@@ -120,7 +120,8 @@ fn each_kind_of_call_has_its_class(rt: HostRuntime) -> Result<(), Fail> {
         };
         assert_eq!(rt; shadow.class(&call, &memory, 16), class);
         assert_eq!(rt; shadow.answer(&call).is_some(), class == Class::Answer);
-        assert_eq!(rt; shadow.look(&call, &memory, 16).becomes.class(), class);
+        let look = shadow.look(&call, &memory, 16, &mut Pieces::new());
+        assert_eq!(rt; look.becomes.class(), class);
     }
     Ok(())
 }
@@ -148,7 +149,7 @@ fn a_call_longer_than_a_batch_waits(rt: HostRuntime) -> Result<(), Fail> {
         let Some(call) = call_named(name, numbers) else {
             return Err(Fail::new("no such call"));
         };
-        let look = shadow.look(&call, &memory, slots);
+        let look = shadow.look(&call, &memory, slots, &mut Pieces::new());
         assert_eq!(rt; look.becomes.class(), Class::Defer);
         assert_eq!(rt; shadow.class(&call, &memory, slots - 1), Class::Sync);
         shadow.note(&call, &memory, look.fault);
@@ -156,14 +157,12 @@ fn a_call_longer_than_a_batch_waits(rt: HostRuntime) -> Result<(), Fail> {
     Ok(())
 }
 
-/// The starts and lengths of the pieces with which a call is put off, if it is.
-fn places_of(becomes: &Becomes) -> [Option<(u64, u64)>; 5] {
+/// The starts and lengths of pieces.
+fn places_of(pieces: &Pieces) -> [Option<(u64, u64)>; 5] {
     let mut places = [None; 5];
-    if let Becomes::Defer { pieces, .. } = becomes {
-        for at in 0..pieces.len().min(5) {
-            let piece = pieces.at(at);
-            places[at] = Some((piece.start, piece.len));
-        }
+    for at in 0..pieces.len().min(5) {
+        let piece = pieces.at(at);
+        places[at] = Some((piece.start, piece.len));
     }
     places
 }
@@ -226,9 +225,10 @@ fn a_draw_and_a_matrix_are_put_off_with_their_pieces(rt: HostRuntime) -> Result<
         let Some(call) = call_named(name, numbers) else {
             return Err(Fail::new("no such call"));
         };
-        let look = shadow.look(&call, &memory, 1024);
+        let mut found = Pieces::new();
+        let look = shadow.look(&call, &memory, 1024, &mut found);
         assert_eq!(rt; look.becomes.class(), Class::Defer);
-        let places = places_of(&look.becomes);
+        let places = places_of(&found);
         for at in 0..5 {
             assert_eq!(rt; places[at], pieces.get(at).copied());
         }
