@@ -105,6 +105,9 @@ carry_same {whole} {n} {q} {r} {whole'} {n'} e h c =
 pub carries_same : {whole whole' : ℤ} {count : ℕ} {numbers : ℕ → ℤ} {c : Carries} → whole' ≡ whole → AreCarries whole' count numbers c → AreCarries whole count numbers c
 carries_same {whole} {whole'} {count} {numbers} {c} e all = subst (λ (z : ℤ). AreCarries z count numbers c) e all
 
+pub counted_same : {whole : ℤ} {count count' : ℕ} {numbers : ℕ → ℤ} {c : Carries} → count' ≡ count → AreCarries whole count' numbers c → AreCarries whole count numbers c
+counted_same {whole} {count} {count'} {numbers} {c} e all = subst (λ (n : ℕ). AreCarries whole n numbers c) e all
+
 pub whole_kept : {whole : ℤ} → pos 0 <ℤ whole → whole ≤ℤ pos (2 ^ 62) → to_z w64 (of_z w64 whole) ≡ whole
 whole_kept some few = omega (arith, ints)
 

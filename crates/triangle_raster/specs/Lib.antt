@@ -6,3 +6,5 @@ pub mod Ranges
 pub mod Carry
 pub mod Held
 pub mod Inside
+pub mod Shaded
+pub mod InsideShaded

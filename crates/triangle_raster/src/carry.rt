@@ -65,6 +65,7 @@ impl Split {
 
 impl Carry {
     /// The carry of a number that is greater by a step.
+    #[inline(always)]
     pub fn stepped(self, step: Carry, whole: i64) -> Carry
         requires few { whole ≤ℤ pos (2 ^ 62) }
         requires here { IsLeft whole self.remainder }
@@ -95,6 +96,7 @@ impl Carry {
 
 impl LongCarry {
     /// The carry of a number that is greater by a step.
+    #[inline(always)]
     pub fn stepped(self, step: LongCarry, whole: i128) -> LongCarry
         requires few { whole ≤ℤ pos (2 ^ 120) }
         requires here { IsLeft whole self.remainder }
@@ -215,8 +217,35 @@ impl Carries {
         Some(Carries { values, remainders })
     }
 
-    /// Goes on by a step each; those from count on stay.
+    /// Goes on by a step each; those from count on stay. Four are most triangles' colours alone, and their loop has a known end.
+    #[inline(always)]
     pub fn step(&mut self, steps: &Carries, count: usize, whole: i64)
+        requires count { count ≤ 10 }
+        requires few { whole ≤ℤ pos (2 ^ 62) }
+        requires here { (k : ℕ) → k < count → IsLeft whole (number_at self.old.remainders k) }
+        requires further { (k : ℕ) → k < count
+            → IsLeft whole (number_at steps.now.remainders k) }
+        requires near { (k : ℕ) → k < count
+            → IsWithin (2 ^ 27) (number_at self.old.values k) }
+        requires slow { (k : ℕ) → k < count
+            → IsWithin (2 ^ 29) (number_at steps.now.values k) }
+        ensures carried { (m n : ℕ → ℤ) → AreCarries whole count m self.old
+            → AreCarries whole count n steps.now
+            → AreCarries whole count (λ k. m k +ℤ n k) self.new }
+        ensures others { (k : ℕ) → count ≤ k
+            → number_at self.new.values k ≡ number_at self.old.values k }
+        ensures ten { length self.new.values ≡ 10 }
+    {
+        if count == 4 {
+            self.step_each(steps, 4, whole);
+        } else {
+            self.step_each(steps, count, whole);
+        }
+    }
+
+    /// The same, one after the other.
+    #[inline(always)]
+    fn step_each(&mut self, steps: &Carries, count: usize, whole: i64)
         requires count { count ≤ 10 }
         requires few { whole ≤ℤ pos (2 ^ 62) }
         requires here { (k : ℕ) → k < count → IsLeft whole (number_at self.old.remainders k) }

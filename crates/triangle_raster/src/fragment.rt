@@ -81,6 +81,7 @@ pub fn depth_at(corners: &[Vertex; 3], sums: &Sums) -> Option<u16>
 }
 
 /// What is left at a covered point with these weights, which is kept at this depth.
+#[inline(never)]
 pub fn kept_at(corners: &[Vertex; 3], sums: &Sums, x: i32, y: i32, depth: u16) -> Fragment
     requires corners { AreCorners corners.now }
     requires sums { AreNearSums sums.now }

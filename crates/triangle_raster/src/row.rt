@@ -8,6 +8,7 @@ ghost use Rattle.triangle_raster.specs.Row.{first, first_spot, numbers_from, pix
 use crate::fragment::{Fragment, Spot};
 use crate::rates::Rates;
 use crate::run::Run;
+use crate::shaded::Shaded;
 use crate::shape::Shape;
 use crate::walk::Walk;
 use std::marker::Model;
@@ -67,6 +68,7 @@ impl Row {
 
     /// The next fragment, in rising x; None where none is left. Its depth is that before DepthRange. Section 3.5.1 of OpenGL ES
     /// 1.1.12, the order own.
+    #[inline(always)]
     pub fn next(&mut self) -> Option<Fragment>
         ensures next { result ≡ first self.old }
         ensures left { self.new ≡ rest self.old }
@@ -79,6 +81,15 @@ impl Row {
             }
             None => None,
         }
+    }
+
+    /// The fragments that are left, one after the other without a search for each, where depth and the first four values are
+    /// carried; None where they aren't, or more values are. Own.
+    #[inline(always)]
+    pub fn shaded(&self) -> Option<Shaded>
+        ensures { IfSome result (λ shaded. shaded ≡ self.now) }
+    {
+        Shaded::of_walk(&self.walk)
     }
 
     /// All fragments that are left, where depth and values are known to be the same in every column; None where that isn't

@@ -6,6 +6,7 @@ ghost use Rattle.triangle_raster.specs.Vertex.{IsFromTo};
 ghost use Rattle.triangle_raster.specs.Held.{alike_at, depth_at, spot_at, walk_seen, weights_here, AreColumns, AreNearSums, AreRates, AreSumsAt, IsReadied, IsShape, IsWalk};
 ghost use Rattle.triangle_raster.specs.Pixel.{pixel_of};
 ghost use Rattle.triangle_raster.specs.Row.{numbers_from, pixels_at, run_of};
+ghost use Rattle.triangle_raster.specs.Shaded.{CarriesFour};
 
 use crate::carry::{Carries, LongCarry};
 use crate::columns::Columns;
@@ -118,6 +119,7 @@ impl Walk {
     }
 
     /// Finds depth and sums in the column after the next one.
+    #[inline(never)]
     fn find(&mut self)
         requires holds { IsWalk self.old }
         requires more { 1 < self.old.left }
@@ -130,18 +132,17 @@ impl Walk {
             .next_depth(self.rates.level, self.found, &self.sums);
     }
 
-    /// Carries depth and values to the column after the next one.
-    fn carry(&mut self)
+    /// Carries depth and so many values, all that move, to the column after the next one.
+    #[inline(always)]
+    fn carry(&mut self, moving: usize)
         requires holds { IsWalk self.old }
         requires more { 1 < self.old.left }
         requires carried { self.old.rates.carried ≡ true }
+        requires moving { moving ≡ self.old.rates.moving }
         ensures { IsReadied self.old self.new }
     {
-        self.carries.step(
-            &self.rates.steps.values,
-            self.rates.moving,
-            self.rates.steps.whole,
-        );
+        self.carries
+            .step(&self.rates.steps.values, moving, self.rates.steps.whole);
         self.depth = self
             .depth
             .stepped(self.rates.steps.depth, self.rates.steps.divisor);
@@ -149,6 +150,7 @@ impl Walk {
     }
 
     /// Makes it ready for the column after the next one, if there is one.
+    #[inline(always)]
     fn ready(&mut self)
         requires holds { IsWalk self.old }
         requires some { 0 < self.old.left }
@@ -156,7 +158,7 @@ impl Walk {
     {
         if self.left > 1 {
             if self.rates.carried {
-                self.carry();
+                self.carry(self.rates.moving);
             } else {
                 self.find();
             }
@@ -164,6 +166,7 @@ impl Walk {
     }
 
     /// Leaves the next column behind.
+    #[inline(always)]
     pub fn step(&mut self)
         requires holds { IsWalk self.old }
         requires some { 0 < self.old.left }
@@ -178,7 +181,53 @@ impl Walk {
         self.left -= 1;
     }
 
+    /// Makes it ready for the column after the next one, if there is one, where depth and four values are carried.
+    #[inline(always)]
+    fn ready_four(&mut self)
+        requires holds { IsWalk self.old }
+        requires some { 0 < self.old.left }
+        requires four { CarriesFour self.old.rates }
+        ensures { IsReadied self.old self.new }
+    {
+        if self.left > 1 {
+            self.carry(4);
+        }
+    }
+
+    /// Leaves the next column behind, where depth and four values are carried.
+    #[inline(always)]
+    pub fn step_four(&mut self)
+        requires holds { IsWalk self.old }
+        requires some { 0 < self.old.left }
+        requires four { CarriesFour self.old.rates }
+        ensures holds { IsWalk self.new }
+        ensures four { CarriesFour self.new.rates }
+        ensures seen { walk_seen self.old ≡ cons_option
+            (pixel_of self.old.shape.corners self.old.shape.view self.old.x self.old.y)
+            (walk_seen self.new) }
+    {
+        self.ready_four();
+        self.x += 1;
+        self.left -= 1;
+    }
+
+    /// The same of a column with no fragment, which are few.
+    #[cold]
+    #[inline(never)]
+    fn pass(&mut self)
+        requires holds { IsWalk self.old }
+        requires some { 0 < self.old.left }
+        ensures holds { IsWalk self.new }
+        ensures left { self.new.left < self.old.left }
+        ensures seen { walk_seen self.old ≡ cons_option
+            (pixel_of self.old.shape.corners self.old.shape.view self.old.x self.old.y)
+            (walk_seen self.new) }
+    {
+        self.step();
+    }
+
     /// Goes to the next column with a fragment, and gives its depth; None where none is left.
+    #[inline(always)]
     pub fn seek(&mut self) -> Option<u16>
         requires holds { IsWalk self.old }
         ensures holds { IsWalk self.new }
@@ -191,7 +240,7 @@ impl Walk {
             if self.found.is_some() {
                 return self.found;
             }
-            self.step();
+            self.pass();
         }
         None
     }
@@ -211,6 +260,7 @@ impl Walk {
     }
 
     /// The fragment in the next column, which is kept at this depth.
+    #[inline(always)]
     pub fn fragment(&self, depth: u16) -> Fragment
         requires holds { IsWalk self.now }
         requires some { 0 < self.now.left }
@@ -229,6 +279,27 @@ impl Walk {
             }
         } else {
             kept_at(&self.shape.corners, &self.sums, self.x, self.y, depth)
+        }
+    }
+
+    /// The fragment in the next column, where depth and values are carried: there is one in each.
+    #[inline(always)]
+    pub fn carried(&self) -> Fragment
+        requires holds { IsWalk self.now }
+        requires some { 0 < self.now.left }
+        requires carried { self.now.rates.carried ≡ true }
+        ensures kept { depth_at self.now.shape.corners (weights_here self.now)
+            ≡ Some result.depth }
+        ensures pixel { Some result
+            ≡ pixel_of self.now.shape.corners self.now.shape.view self.now.x self.now.y }
+    {
+        let x = self.x;
+        let y = self.y;
+        Fragment {
+            x,
+            y,
+            depth: self.depth.quotient as u16,
+            values: self.carries.values,
         }
     }
 

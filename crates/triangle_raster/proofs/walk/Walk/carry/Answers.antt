@@ -1,6 +1,6 @@
 use Rattle.std.proofs.Common.{◌≡◌, ◌≤◌, ℕ, pos, ◌+ℤ◌, Some, unsigned_abs, to_z, of_z, w32, refl, sym, ap, ◌∙◌, arith}
 use Rattle.std.proofs.lemmas.Int.{ints}
-use Rattle.triangle_raster.proofs.Carries.{carries_same, carry_same, divisor_kept, left_same, whole_kept}
+use Rattle.triangle_raster.proofs.Carries.{carries_same, carry_same, counted_same, divisor_kept, left_same, whole_kept}
 use Rattle.triangle_raster.proofs.CarriedWalks.{carries_next, depth_here, depth_next, not_both, values_near}
 use Rattle.triangle_raster.proofs.Walks.{covered_here}
 use Rattle.triangle_raster.proofs.walk.Walk.carry.Goals as goal
@@ -9,12 +9,12 @@ pub step-requires-clause-here : goal.step-requires-clause-here
 step-requires-clause-here c = λ k below.
     let steps = c.requires.holds.rates_hold.carried_holds c.requires.carried in
     let here = (c.requires.holds.next_holds (omega arith)).carried_at c.requires.carried in
-    left_same (whole_kept steps.whole_holds.some steps.whole_holds.few) refl (here.values_carried.each k below).left
+    left_same (whole_kept steps.whole_holds.some steps.whole_holds.few) refl (here.values_carried.each k (omega arith)).left
 
 pub step-requires-clause-further : goal.step-requires-clause-further
 step-requires-clause-further c = λ k below.
     let steps = c.requires.holds.rates_hold.carried_holds c.requires.carried in
-    left_same (whole_kept steps.whole_holds.some steps.whole_holds.few) refl (steps.value_steps.carried.each k below).left
+    left_same (whole_kept steps.whole_holds.some steps.whole_holds.few) refl (steps.value_steps.carried.each k (omega arith)).left
 
 pub step-requires-clause-near : goal.step-requires-clause-near
 step-requires-clause-near c = λ k below.
@@ -22,10 +22,10 @@ step-requires-clause-near c = λ k below.
     let rates = c.requires.holds.rates_hold in
     let here = (c.requires.holds.next_holds (omega arith)).carried_at c.requires.carried in
     values_near r.shape c.requires.holds.shape_holds r.rates.moving r.rates.steps (rates.carried_holds c.requires.carried) r.x r.y (covered_here r c.requires.holds (omega arith))
-    rates.ten_values rates.few_moving r.carries here.values_carried k below
+    rates.ten_values rates.few_moving r.carries here.values_carried k (omega arith)
 
 pub step-requires-clause-slow : goal.step-requires-clause-slow
-step-requires-clause-slow c = λ k below. (c.requires.holds.rates_hold.carried_holds c.requires.carried).value_steps.slow k below
+step-requires-clause-slow c = λ k below. (c.requires.holds.rates_hold.carried_holds c.requires.carried).value_steps.slow k (omega arith)
 
 pub stepped-self-requires-clause-here : goal.stepped-self-requires-clause-here
 stepped-self-requires-clause-here c =
@@ -88,8 +88,9 @@ returns c =
         sums_hold = λ e. not_both r.rates.carried c.requires.carried e;
         carried_at = λ t. record {
           values_carried = carries_next r.shape shape r.x r.y r.rates.steps.whole r.rates.moving c.step.new.self
-              (carries_same whole (c.step.ensures.carried _ _ (carries_same (sym whole) here.values_carried) (carries_same (sym whole) steps.value_steps.carried)));
-          others_carried = λ k from. c.step.ensures.others k from ∙ here.others_carried k from;
+              (carries_same whole (counted_same c.requires.moving
+              (c.step.ensures.carried _ _ (counted_same (sym c.requires.moving) (carries_same (sym whole) here.values_carried)) (counted_same (sym c.requires.moving) (carries_same (sym whole) steps.value_steps.carried)))));
+          others_carried = λ k from. c.step.ensures.others k (omega arith) ∙ here.others_carried k from;
           ten_carried = c.step.ensures.ten;
           depth_carried = carry;
         };

@@ -4,11 +4,11 @@ use Rattle.triangle_raster.proofs.walk.Walk.seek.Goals as goal
 
 pub loop-self-preserved : goal.loop-self-preserved
 loop-self-preserved c = record {
-  holds = c.step.ensures.holds;
+  holds = c.pass.ensures.holds;
   same =
       passed_by c.loop-self.self c.loop-self.invariant.holds c.loop-self-test.true
       (sym (c.loop-self.invariant.holds.next_holds c.loop-self-test.true).depth_holds ∙ none_from_test _ (sym c.is_some.ensures ∙ c.if-is_some.false))
-      c.step.ensures.seen
+      c.pass.ensures.seen
       ∙ c.loop-self.invariant.same;
 }
 

@@ -1,7 +1,7 @@
 use Rattle.std.proofs.Common.{◌≡◌, ◌≤◌, ◌<◌, ℕ, ℤ, ◌+ℤ◌, length}
 use Rattle.triangle_raster.specs.Carry.{IsCarry}
 use Rattle.triangle_raster.specs.Ranges.{number_at}
-use Rattle.triangle_raster.proofs.carry.Carries.step.Given as goal
+use Rattle.triangle_raster.proofs.carry.Carries.step_each.Given as goal
 
 -- those before k have gone on, and the others are as they were
 abbrev pub invariant-loop-k : goal.invariant-loop-k
