@@ -5,3 +5,4 @@ pub mod Keeping
 pub mod Scissors
 pub mod FrameChanges
 pub mod Runs
+pub mod Laying

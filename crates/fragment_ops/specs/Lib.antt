@@ -5,4 +5,5 @@ pub mod Cell
 pub mod Frame
 pub mod Hidden
 pub mod Rows
+pub mod Over
 pub mod Laws

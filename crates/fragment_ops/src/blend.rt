@@ -1,6 +1,6 @@
 //! Colours of four bytes, red, green, blue and alpha: blending and masks.
 
-ghost use Rattle.std.specs.Prelude.{◌≡◌, ◌<◌, map, true, [], ◌∷◌, if◌then◌else◌, IfSome};
+ghost use Rattle.std.specs.Prelude.{◌≡◌, ◌<◌, ◌-◌, map, true, [], ◌∷◌, if◌then◌else◌, IfSome};
 ghost use Rattle.fragment_ops.specs.Blend.{blended, blended_at, byte_product, dest_factors, even, lack_of, masked, part_blended, parts, saturating, source_factors};
 
 const ZERO: u32 = 0;
@@ -11,9 +11,9 @@ const SRC_COLOR: u32 = 0x0300;
 
 const ONE_MINUS_SRC_COLOR: u32 = 0x0301;
 
-const SRC_ALPHA: u32 = 0x0302;
+pub(crate) const SRC_ALPHA: u32 = 0x0302;
 
-const ONE_MINUS_SRC_ALPHA: u32 = 0x0303;
+pub(crate) const ONE_MINUS_SRC_ALPHA: u32 = 0x0303;
 
 const DST_ALPHA: u32 = 0x0304;
 
@@ -25,6 +25,7 @@ const ONE_MINUS_DST_COLOR: u32 = 0x0307;
 
 /// A source blended with a destination by the factors of these names (section 4.1.7). Those that blend by the source's alpha
 /// are asked for first, since most draws that blend have them.
+#[inline(always)]
 #[tactic(auto, unfolding(crate::specs::Blend::blended))]
 pub(crate) fn blended(
     source_factor: u32,
@@ -35,7 +36,7 @@ pub(crate) fn blended(
     ensures { result ≡ blended source_factor dest_factor source dest }
 {
     if source_factor == SRC_ALPHA && dest_factor == ONE_MINUS_SRC_ALPHA {
-        blended_by_alpha(source, dest)
+        blended_by_alpha(source, &dest)
     } else {
         blended_by_name(source_factor, dest_factor, source, dest)
     }
@@ -57,11 +58,39 @@ fn blended_by_name(source_factor: u32, dest_factor: u32, source: [u8; 4], dest: 
 }
 
 /// A source blended with a destination by its alpha, and by what that lacks to 1.
+#[inline(always)]
 #[tactic(auto, unfolding(crate::specs::Blend::blended, crate::specs::Blend::source_factors, crate::specs::Blend::dest_factors))]
-fn blended_by_alpha(source: [u8; 4], dest: [u8; 4]) -> [u8; 4]
-    ensures { result ≡ blended 0x302 0x303 source dest }
+pub(crate) fn blended_by_alpha(source: [u8; 4], dest: &[u8; 4]) -> [u8; 4]
+    ensures { result ≡ blended 0x302 0x303 source dest.now }
 {
-    blended_evenly(source, source[3], dest, 255 - source[3])
+    blended_between(source, source[3], dest)
+}
+
+/// A source blended with a destination by one factor, and by what that lacks to 1.
+#[inline(always)]
+#[tactic(auto, unfolding(crate::specs::Blend::blended_at))]
+fn blended_between(source: [u8; 4], factor: u8, dest: &[u8; 4]) -> [u8; 4]
+    ensures { result ≡ map (blended_at source (even factor) dest.now (even (255 - factor))) parts }
+{
+    [
+        part_between(source[0], factor, dest[0]),
+        part_between(source[1], factor, dest[1]),
+        part_between(source[2], factor, dest[2]),
+        part_between(source[3], factor, dest[3]),
+    ]
+}
+
+/// A part blended by a factor, and by what that lacks to 1: the sum is never above 1. A product is divided by 255 as 257 times it
+/// by 65536, which is faster and rounds the same way.
+#[inline(always)]
+#[tactic(auto, unfolding(crate::specs::Blend::part_blended, crate::specs::Blend::byte_product))]
+fn part_between(source: u8, factor: u8, dest: u8) -> u8
+    ensures { result ≡ part_blended source factor dest (255 - factor) }
+{
+    let of_source = u32::from(source) * u32::from(factor);
+    let of_dest = u32::from(dest) * u32::from(255 - factor);
+    let sum = (of_source * 257 + 32896) / 65536 + (of_dest * 257 + 32896) / 65536;
+    sum as u8
 }
 
 /// A source blended with a destination by the factors of these names, each part with a factor of its own.
@@ -188,6 +217,7 @@ fn saturating(source: [u8; 4], dest: [u8; 4]) -> [u8; 4]
 }
 
 /// A part blended: the sum of the source and the destination, each times its factor, cut at 1.
+#[inline(always)]
 #[tactic(auto, unfolding(crate::specs::Blend::part_blended))]
 fn part_blended(source: u8, source_factor: u8, dest: u8, dest_factor: u8) -> u8
     ensures { result ≡ part_blended source source_factor dest dest_factor }
@@ -198,6 +228,7 @@ fn part_blended(source: u8, source_factor: u8, dest: u8, dest_factor: u8) -> u8
 }
 
 /// The product of two bytes that stand for 0 to 1, as such a byte.
+#[inline(always)]
 #[tactic(auto, unfolding(crate::specs::Blend::byte_product))]
 fn byte_product(a: u8, b: u8) -> u8
     ensures { result ≡ byte_product a b }
@@ -206,6 +237,7 @@ fn byte_product(a: u8, b: u8) -> u8
 }
 
 /// A colour that is written over another one: the new part where its mask is on, else the old one (section 4.2.2).
+#[inline(always)]
 pub(crate) fn masked(mask: [bool; 4], new: [u8; 4], old: [u8; 4]) -> [u8; 4]
     ensures { result ≡ masked mask new old }
 {
@@ -232,6 +264,7 @@ fn masked_apart(mask: [bool; 4], new: [u8; 4], old: [u8; 4]) -> [u8; 4]
 }
 
 /// Whether each part's mask is on.
+#[inline(always)]
 pub(crate) fn all_on(mask: [bool; 4]) -> bool
     ensures { result ≡ true → mask ≡ true ∷ true ∷ true ∷ true ∷ [] }
 {

@@ -9,6 +9,7 @@ ghost use Rattle.fragment_ops.specs.State.{IsFragmentState};
 use crate::area::Area;
 use crate::cell::Cell;
 use crate::clear::Clearing;
+use crate::over::lay_over;
 use crate::place::Place;
 use crate::state::FragmentState;
 use std::alloc::{AllocError as NoMemory, Global};
@@ -90,6 +91,7 @@ impl Frame {
     /// A fragment comes to the place in column x and row y, in pixels from the lower left corner, with a depth of 16 bits
     /// and a colour of four bytes: scissor, alpha test, depth test, blending and masks (chapter 4). Every other cell stays,
     /// and outside the frame nothing changes. It takes no memory.
+    #[inline(always)]
     pub fn put(&mut self, state: &FragmentState, x: i32, y: i32, depth: u16, colour: [u8; 4])
         requires state { IsFragmentState state.now }
         ensures { self.new ≡ frame_changed (only_at x y (λ place.
@@ -98,9 +100,13 @@ impl Frame {
         let Some(place) = self.place(x, y) else {
             return;
         };
-        let old = self.cell(place);
         let at = self.before(place);
-        self.cells[at] = state.put(place, depth, colour, old);
+        if state.lays_over() {
+            lay_over(depth, colour, &mut self.cells[at]);
+        } else {
+            let old = self.cell(place);
+            self.cells[at] = state.put(place, depth, colour, old);
+        }
     }
 
     /// Fragments of the same depth and colour come to so many places of row y, from column x on, in pixels from the lower
@@ -150,6 +156,7 @@ impl Frame {
     }
 
     /// The place in column x and row y, if the frame has it.
+    #[inline(always)]
     fn place(&self, x: i32, y: i32) -> Option<Place>
         ensures place { result ≡ place_in self.now x y }
         ensures inside { IfSome result (λ place.
@@ -174,6 +181,7 @@ impl Frame {
     }
 
     /// The cell at a place of the frame.
+    #[inline(always)]
     #[tactic(auto, unfolding(crate::specs::Frame::cell_at))]
     fn cell(&self, place: Place) -> Cell
         requires column { place.column < self.now.width }
@@ -184,6 +192,7 @@ impl Frame {
     }
 
     /// How many cells come before that of a place of the frame.
+    #[inline(always)]
     fn before(&self, place: Place) -> usize
         requires column { place.column < self.now.width }
         requires row { place.row < self.now.height }

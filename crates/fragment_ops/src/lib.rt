@@ -8,6 +8,7 @@ mod clear;
 mod comparison;
 mod frame;
 pub mod laws;
+mod over;
 mod place;
 mod run;
 mod state;

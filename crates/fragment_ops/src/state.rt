@@ -47,6 +47,7 @@ pub struct FragmentState {
 
 impl FragmentState {
     /// The scissor test of a place (section 4.1.2).
+    #[inline(always)]
     pub(crate) fn passes_scissor(&self, place: Place) -> bool
         ensures { result ≡ passes_scissor self.now place }
     {
@@ -58,6 +59,7 @@ impl FragmentState {
     }
 
     /// The alpha test of a colour (section 4.1.4).
+    #[inline(always)]
     fn passes_alpha(&self, depth: u16, colour: [u8; 4]) -> bool
         requires state { IsFragmentState self.now }
         ensures { result ≡ passes_alpha self.now (record { depth = depth; colour = colour }) }
@@ -71,6 +73,7 @@ impl FragmentState {
     }
 
     /// The depth test of a depth against that of a cell (section 4.1.6).
+    #[inline(always)]
     pub(crate) fn passes_depth(&self, depth: u16, colour: [u8; 4], old: Cell) -> bool
         ensures { result ≡ passes_depth self.now (record { depth = depth; colour = colour }) old }
     {
@@ -82,6 +85,7 @@ impl FragmentState {
     }
 
     /// A colour over that of a cell (section 4.1.7).
+    #[inline(always)]
     fn colour_over(&self, depth: u16, colour: [u8; 4], old: Cell) -> [u8; 4]
         ensures { result ≡ colour_over self.now (record { depth = depth; colour = colour }) old }
     {
@@ -93,6 +97,7 @@ impl FragmentState {
     }
 
     /// Whether the depth of a fragment that passed its tests is written (sections 4.1.6 and 4.2.2).
+    #[inline(always)]
     fn writes_depth(&self) -> bool
         ensures { result ≡ (self.now.depth_on && self.now.depth_mask) }
     {
@@ -100,6 +105,7 @@ impl FragmentState {
     }
 
     /// The cell over which a fragment that passed its tests is written (sections 4.1.6 and 4.2.2).
+    #[inline(always)]
     #[tactic(auto, unfolding(crate::specs::Cell::cell_written))]
     fn written(&self, depth: u16, colour: [u8; 4], old: Cell) -> Cell
         ensures { result ≡ cell_written self.now (record { depth = depth; colour = colour }) old }
@@ -115,6 +121,7 @@ impl FragmentState {
     }
 
     /// The cell at a place after a fragment came there: scissor, alpha test, depth test, and then blending and masks.
+    #[inline(always)]
     #[tactic(auto, unfolding(crate::specs::Cell::cell_after_put, crate::specs::Rows::cell_tested))]
     pub(crate) fn put(&self, place: Place, depth: u16, colour: [u8; 4], old: Cell) -> Cell
         requires state { IsFragmentState self.now }
@@ -191,6 +198,7 @@ impl FragmentState {
 }
 
 /// Whether a place lies in a rectangle of x, y, width and height.
+#[inline(always)]
 #[tactic(auto, unfolding(crate::specs::Cell::is_within))]
 fn is_within(rectangle: [i32; 4], place: Place) -> bool
     ensures { result ≡ is_within rectangle place }
@@ -202,6 +210,7 @@ fn is_within(rectangle: [i32; 4], place: Place) -> bool
 }
 
 /// Whether a number is one of so many from a first one on.
+#[inline(always)]
 fn is_between(first: i32, count: i32, number: u32) -> bool
     ensures { result ≡ (int_le first (pos number) && int_lt (pos number) (first +ℤ count)) }
 {
@@ -212,6 +221,7 @@ fn is_between(first: i32, count: i32, number: u32) -> bool
 }
 
 /// The new depth where a test passes, else the old one.
+#[inline(always)]
 fn chosen(test: bool, new: u16, old: u16) -> u16
     ensures { result ≡ if test then new else old }
 {
@@ -219,6 +229,7 @@ fn chosen(test: bool, new: u16, old: u16) -> u16
 }
 
 /// A 16.16 fixed number of 0 to 1 as a byte, rounded; own.
+#[inline(always)]
 pub fn byte(number: i32) -> u8
     requires within { IsWithinOne number }
     ensures { result ≡ byte_of number }

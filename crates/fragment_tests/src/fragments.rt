@@ -372,7 +372,8 @@ const RUNS: [(i32, i32, u32, &[u8]); 9] = [
     (1, 1, 0, b"..../..../...."),
 ];
 
-/// States by which runs are put: the first, with tests, with masks, with blending, and with the scissor test.
+/// States by which runs are put: the first, with tests, with masks, with blending, with the scissor test, and with the depth test
+/// and blending by alpha, by which a fragment alone is laid over its cell.
 fn state_of_run(number: u32) -> FragmentState
     ensures { IsFragmentState result }
 {
@@ -385,7 +386,12 @@ fn state_of_run(number: u32) -> FragmentState
         5 => blending(0x302, 0x303),
         6 => blending(0x306, 0x301),
         7 => scissored([1, 0, 2, 3]),
-        _ => scissored([2, 1, 9, 1]),
+        8 => scissored([2, 1, 9, 1]),
+        _ => FragmentState {
+            depth_on: true,
+            depth_func: comparison(0x203),
+            ..blending(0x302, 0x303)
+        },
     }
 }
 
@@ -405,7 +411,7 @@ fn uneven_frame(alloc: Global) -> Result<Frame, NoMemory> {
 #[test]
 fn a_run_is_its_fragments_one_by_one(rt: HostRuntime) -> Result<(), Fail> {
     for (x, y, count, picture) in RUNS {
-        for number in 0..9 {
+        for number in 0..10 {
             let state = state_of_run(number);
             let mut at_once = uneven_frame(rt.alloc())?;
             at_once.put_run(&state, x, y, count, 100, [90, 180, 30, 150]);
