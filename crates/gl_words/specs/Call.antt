@@ -44,7 +44,11 @@ asks id name kinds make values = row id name kinds make values true
 unfoldable pub row_of : Call → Row
 row_of (gl.ActiveTexture texture) = does 1 (codes "ActiveTexture") (Enum ∷ []) gl.ActiveTexture (texture & tt)
 row_of (gl.AlphaFuncx func reference) = does 2 (codes "AlphaFuncx") (Enum ∷ Fixed ∷ []) gl.AlphaFuncx (func & reference & tt)
+row_of (gl.BindBuffer target buffer) = does 3 (codes "BindBuffer") (Enum ∷ Unsigned ∷ []) gl.BindBuffer (target & buffer & tt)
+row_of (gl.BindTexture target texture) = does 4 (codes "BindTexture") (Enum ∷ Unsigned ∷ []) gl.BindTexture (target & texture & tt)
 row_of (gl.BlendFunc sfactor dfactor) = does 5 (codes "BlendFunc") (Enum ∷ Enum ∷ []) gl.BlendFunc (sfactor & dfactor & tt)
+row_of (gl.BufferData target size source usage) = does 6 (codes "BufferData") (Enum ∷ Int ∷ Pointer ∷ Enum ∷ []) gl.BufferData (target & size & source & usage & tt)
+row_of (gl.BufferSubData target offset size source) = does 7 (codes "BufferSubData") (Enum ∷ Int ∷ Int ∷ Pointer ∷ []) gl.BufferSubData (target & offset & size & source & tt)
 row_of (gl.Clear mask) = does 8 (codes "Clear") (Unsigned ∷ []) gl.Clear (mask & tt)
 row_of (gl.ClearColorx red green blue alpha) = does 9 (codes "ClearColorx") (Fixed ∷ Fixed ∷ Fixed ∷ Fixed ∷ []) gl.ClearColorx (red & green & blue & alpha & tt)
 row_of (gl.ClearDepthx depth) = does 10 (codes "ClearDepthx") (Fixed ∷ []) gl.ClearDepthx (depth & tt)
@@ -53,23 +57,30 @@ row_of (gl.Color4x red green blue alpha) = does 12 (codes "Color4x") (Fixed ∷ 
 row_of (gl.ColorMask red green blue alpha) = does 13 (codes "ColorMask") (Truth ∷ Truth ∷ Truth ∷ Truth ∷ []) gl.ColorMask (red & green & blue & alpha & tt)
 row_of (gl.ColorPointer size kind stride pointer) = does 14 (codes "ColorPointer") (Int ∷ Enum ∷ Int ∷ Pointer ∷ []) gl.ColorPointer (size & kind & stride & pointer & tt)
 row_of (gl.CullFace mode) = does 15 (codes "CullFace") (Enum ∷ []) gl.CullFace (mode & tt)
+row_of (gl.DeleteBuffers n names) = does 16 (codes "DeleteBuffers") (Int ∷ Pointer ∷ []) gl.DeleteBuffers (n & names & tt)
+row_of (gl.DeleteTextures n names) = does 17 (codes "DeleteTextures") (Int ∷ Pointer ∷ []) gl.DeleteTextures (n & names & tt)
 row_of (gl.DepthFunc func) = does 18 (codes "DepthFunc") (Enum ∷ []) gl.DepthFunc (func & tt)
 row_of (gl.DepthMask flag) = does 19 (codes "DepthMask") (Truth ∷ []) gl.DepthMask (flag & tt)
 row_of (gl.DepthRangex near far) = does 20 (codes "DepthRangex") (Fixed ∷ Fixed ∷ []) gl.DepthRangex (near & far & tt)
 row_of (gl.Disable cap) = does 21 (codes "Disable") (Enum ∷ []) gl.Disable (cap & tt)
 row_of (gl.DisableClientState array) = does 22 (codes "DisableClientState") (Enum ∷ []) gl.DisableClientState (array & tt)
 row_of (gl.DrawArrays mode first count) = does 23 (codes "DrawArrays") (Enum ∷ Int ∷ Int ∷ []) gl.DrawArrays (mode & first & count & tt)
+row_of (gl.DrawElements mode count kind indices) = does 24 (codes "DrawElements") (Enum ∷ Int ∷ Enum ∷ Pointer ∷ []) gl.DrawElements (mode & count & kind & indices & tt)
 row_of (gl.Enable cap) = does 25 (codes "Enable") (Enum ∷ []) gl.Enable (cap & tt)
 row_of (gl.EnableClientState array) = does 26 (codes "EnableClientState") (Enum ∷ []) gl.EnableClientState (array & tt)
 row_of gl.Finish = does 27 (codes "Finish") [] gl.Finish tt
 row_of gl.Flush = does 28 (codes "Flush") [] gl.Flush tt
 row_of (gl.FrontFace mode) = does 29 (codes "FrontFace") (Enum ∷ []) gl.FrontFace (mode & tt)
 row_of (gl.Frustumx left right bottom top near far) = does 30 (codes "Frustumx") (Fixed ∷ Fixed ∷ Fixed ∷ Fixed ∷ Fixed ∷ Fixed ∷ []) gl.Frustumx (left & right & bottom & top & near & far & tt)
+row_of (gl.GenBuffers n names) = asks 31 (codes "GenBuffers") (Int ∷ Pointer ∷ []) gl.GenBuffers (n & names & tt)
+row_of (gl.GenTextures n names) = asks 32 (codes "GenTextures") (Int ∷ Pointer ∷ []) gl.GenTextures (n & names & tt)
 row_of gl.GetError = asks 33 (codes "GetError") [] gl.GetError tt
 row_of (gl.GetFixedv pname params) = asks 34 (codes "GetFixedv") (Enum ∷ Pointer ∷ []) gl.GetFixedv (pname & params & tt)
 row_of (gl.GetIntegerv pname params) = asks 35 (codes "GetIntegerv") (Enum ∷ Pointer ∷ []) gl.GetIntegerv (pname & params & tt)
 row_of (gl.GetPointerv pname params) = asks 36 (codes "GetPointerv") (Enum ∷ Pointer ∷ []) gl.GetPointerv (pname & params & tt)
+row_of (gl.IsBuffer buffer) = asks 37 (codes "IsBuffer") (Unsigned ∷ []) gl.IsBuffer (buffer & tt)
 row_of (gl.IsEnabled cap) = asks 38 (codes "IsEnabled") (Enum ∷ []) gl.IsEnabled (cap & tt)
+row_of (gl.IsTexture texture) = asks 39 (codes "IsTexture") (Unsigned ∷ []) gl.IsTexture (texture & tt)
 row_of gl.LoadIdentity = does 40 (codes "LoadIdentity") [] gl.LoadIdentity tt
 row_of (gl.LoadMatrixx matrix) = does 41 (codes "LoadMatrixx") (Pointer ∷ []) gl.LoadMatrixx (matrix & tt)
 row_of (gl.MatrixMode mode) = does 42 (codes "MatrixMode") (Enum ∷ []) gl.MatrixMode (mode & tt)
@@ -96,7 +107,11 @@ abbrev pub each_call : List Call
 each_call =
     gl.ActiveTexture 0 ∷
     gl.AlphaFuncx 0 (pos 0) ∷
+    gl.BindBuffer 0 0 ∷
+    gl.BindTexture 0 0 ∷
     gl.BlendFunc 0 0 ∷
+    gl.BufferData 0 (pos 0) 0 0 ∷
+    gl.BufferSubData 0 (pos 0) (pos 0) 0 ∷
     gl.Clear 0 ∷
     gl.ClearColorx (pos 0) (pos 0) (pos 0) (pos 0) ∷
     gl.ClearDepthx (pos 0) ∷
@@ -105,23 +120,30 @@ each_call =
     gl.ColorMask false false false false ∷
     gl.ColorPointer (pos 0) 0 (pos 0) 0 ∷
     gl.CullFace 0 ∷
+    gl.DeleteBuffers (pos 0) 0 ∷
+    gl.DeleteTextures (pos 0) 0 ∷
     gl.DepthFunc 0 ∷
     gl.DepthMask false ∷
     gl.DepthRangex (pos 0) (pos 0) ∷
     gl.Disable 0 ∷
     gl.DisableClientState 0 ∷
     gl.DrawArrays 0 (pos 0) (pos 0) ∷
+    gl.DrawElements 0 (pos 0) 0 0 ∷
     gl.Enable 0 ∷
     gl.EnableClientState 0 ∷
     gl.Finish ∷
     gl.Flush ∷
     gl.FrontFace 0 ∷
     gl.Frustumx (pos 0) (pos 0) (pos 0) (pos 0) (pos 0) (pos 0) ∷
+    gl.GenBuffers (pos 0) 0 ∷
+    gl.GenTextures (pos 0) 0 ∷
     gl.GetError ∷
     gl.GetFixedv 0 0 ∷
     gl.GetIntegerv 0 0 ∷
     gl.GetPointerv 0 0 ∷
+    gl.IsBuffer 0 ∷
     gl.IsEnabled 0 ∷
+    gl.IsTexture 0 ∷
     gl.LoadIdentity ∷
     gl.LoadMatrixx 0 ∷
     gl.MatrixMode 0 ∷

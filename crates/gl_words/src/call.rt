@@ -12,10 +12,34 @@ pub enum Call {
         func: u32,
         reference: i32,
     },
+    /// Binds a buffer to ARRAY_BUFFER or ELEMENT_ARRAY_BUFFER, 0 for none (section 2.9).
+    BindBuffer {
+        target: u32,
+        buffer: u32,
+    },
+    /// Binds a texture to TEXTURE_2D of the active unit, 0 for the default one (section 3.7.11).
+    BindTexture {
+        target: u32,
+        texture: u32,
+    },
     /// Sets by which factors source and destination are blended (section 4.1.7).
     BlendFunc {
         sfactor: u32,
         dfactor: u32,
+    },
+    /// Gives the buffer of a target new bytes: so many from client memory, or zeros where the address is 0 (section 2.9).
+    BufferData {
+        target: u32,
+        size: i32,
+        source: u32,
+        usage: u32,
+    },
+    /// Writes so many bytes from client memory over those of the buffer of a target, from an offset on (section 2.9).
+    BufferSubData {
+        target: u32,
+        offset: i32,
+        size: i32,
+        source: u32,
     },
     /// Clears the buffers named by the bits (section 4.2.3).
     Clear {
@@ -61,6 +85,16 @@ pub enum Call {
     CullFace {
         mode: u32,
     },
+    /// Deletes the buffers whose names lie in client memory, so many (section 2.9).
+    DeleteBuffers {
+        n: i32,
+        names: u32,
+    },
+    /// Deletes the textures whose names lie in client memory, so many (section 3.7.11).
+    DeleteTextures {
+        n: i32,
+        names: u32,
+    },
     /// Sets which depths pass the depth test: a comparison (section 4.1.6).
     DepthFunc {
         func: u32,
@@ -89,6 +123,14 @@ pub enum Call {
         first: i32,
         count: i32,
     },
+    /// Draws primitives from the elements that indices name: how many, their type, and where they lie, in client memory or in
+    /// the buffer that is bound for them (sections 2.8 and 2.9).
+    DrawElements {
+        mode: u32,
+        count: i32,
+        kind: u32,
+        indices: u32,
+    },
     /// Switches a capability on (chapters 2 to 4).
     Enable {
         cap: u32,
@@ -114,6 +156,16 @@ pub enum Call {
         near: i32,
         far: i32,
     },
+    /// Asks for so many names of buffers that are in use nowhere, which are written to client memory (section 2.9).
+    GenBuffers {
+        n: i32,
+        names: u32,
+    },
+    /// Asks for so many names of textures that are in use nowhere, which are written to client memory (section 3.7.11).
+    GenTextures {
+        n: i32,
+        names: u32,
+    },
     /// Asks for the recorded error, which is forgotten (section 2.5).
     GetError,
     /// Asks for state as 16.16 fixed numbers, which are written to client memory (section 6.1).
@@ -131,9 +183,17 @@ pub enum Call {
         pname: u32,
         params: u32,
     },
+    /// Asks whether a name is that of a buffer (section 6.1.6).
+    IsBuffer {
+        buffer: u32,
+    },
     /// Asks whether a capability or an array is switched on (section 6.1).
     IsEnabled {
         cap: u32,
+    },
+    /// Asks whether a name is that of a texture (section 6.1.4).
+    IsTexture {
+        texture: u32,
     },
     /// Sets the current matrix to the identity (section 2.10.2).
     LoadIdentity,

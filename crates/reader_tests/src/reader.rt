@@ -19,6 +19,8 @@ const READ: &str = "\
 4 4 0, 5: 0 ClearColorx 65536 0 0 65536, 6: 0 Clear 16384 : # red^;^;glscript 1^;context 0 0x4 4 -0^;00 ClearColorx 0x10000 ZERO 0 65536^;0 Clear 16384^;end
 4 4 0, 4: 0 ClearColorx 65536 0 0 65536, 5: 0 Clear 16384 :  glscript\t1;\t#;context  0 4 0000000004 0;0 ClearColorx 65536 0 0 0x00010000 ;0\tClear 0x4000;end;#;
 4 4 0, 3: 0 ColorMask 0 1 1 1, 4: 0 DepthMask 0 : $0 ColorMask 0 1 255 0x7F;0 DepthMask -0;end;
+4 4 0, 3: 0 BindBuffer 34962 4294967295, 4: 0 BufferData 34963 -1 8 35044 : $0 BindBuffer ARRAY_BUFFER 4294967295;0 BufferData ELEMENT_ARRAY_BUFFER -1 8 STATIC_DRAW;end;
+4 4 0, 3: 0 BufferSubData 34962 -5 2147483647 16, 4: 0 DrawElements 4 3 5123 0 : $0 BufferSubData ARRAY_BUFFER -5 2147483647 0x10;0 DrawElements TRIANGLES 3 UNSIGNED_SHORT 0;end;
 4 4 0, 3: 0 mem 0: 9 : $0 mem 0 09;end;
 4 4 0, 3: 0 mem 16: 160 191 : $00 mem 0x10 a0Bf\t;end;
 4 4 0, 3: 0 mem 4294967295: 255 255 0 : $0 mem 4294967295 FFff00;end;
@@ -55,6 +57,10 @@ line 3: WrongCount : $0 MatrixMode;
 line 3: BadNumber : $0 MatrixMode MODELVIEWS;
 line 3: UnknownWord : $0 Rotate 0 0 0 0;
 line 3: OutOfRange : $0 ClearColorx 2147483648 0 0 0;
+line 3: OutOfRange : $0 GenBuffers 1 -1;
+line 3: OutOfRange : $0 BindBuffer ARRAY_BUFFER 4294967296;
+line 3: OutOfRange : $0 BufferSubData ARRAY_BUFFER 2147483648 0 0;
+line 3: UnknownWord : $0 BindBuffers 1 1;
 line 3: NoSuchContext : $1 Flush;end;
 line 3: UnknownWord : $0 Mem 0 ab;
 line 3: UnknownWord : $0 images a 1 1 0;
@@ -152,7 +158,11 @@ fn numbers_hold_at_their_edges(rt: HostRuntime) -> Result<(), Fail> {
 const ARGUMENTS: &str = "\
 ActiveTexture 1
 AlphaFuncx 2
+BindBuffer 2
+BindTexture 2
 BlendFunc 2
+BufferData 4
+BufferSubData 4
 Clear 1
 ClearColorx 4
 ClearDepthx 1
@@ -161,23 +171,30 @@ Color4x 4
 ColorMask 4
 ColorPointer 4
 CullFace 1
+DeleteBuffers 2
+DeleteTextures 2
 DepthFunc 1
 DepthMask 1
 DepthRangex 2
 Disable 1
 DisableClientState 1
 DrawArrays 3
+DrawElements 4
 Enable 1
 EnableClientState 1
 Finish 0
 Flush 0
 FrontFace 1
 Frustumx 6
+GenBuffers 2
+GenTextures 2
 GetError 0
 GetFixedv 2
 GetIntegerv 2
 GetPointerv 2
+IsBuffer 1
 IsEnabled 1
+IsTexture 1
 LoadIdentity 0
 LoadMatrixx 1
 MatrixMode 1
