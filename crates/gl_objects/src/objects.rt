@@ -1,8 +1,8 @@
 //! The objects that contexts share, and what an event makes of them.
 
-ghost use Rattle.std.specs.Prelude.{◌≡◌, true, false, None, IfOk, OnOk, OnErr, IsOk};
+ghost use Rattle.std.specs.Prelude.{◌≡◌, true, false, None, IfOk, OnOk, OnErr, IsOk, IsErr};
 ghost use Rattle.gl_objects.specs.Event.{IsEvent, is_asking};
-ghost use Rattle.gl_objects.specs.Step.{no_objects, step, reply_of, byte_in};
+ghost use Rattle.gl_objects.specs.Step.{no_objects, step, reply_of, fault_of, byte_in};
 
 use crate::event::Event;
 use crate::kind::Kind;
@@ -50,13 +50,15 @@ impl Objects {
         }
     }
 
-    /// Applies an event. After NoMemory the objects are as they were. `Is` and `Use` take no memory and are never refused.
+    /// Applies an event. After NoMemory the objects are as they were. `Is`, `Use` and an event with a fault take no memory and are
+    /// never refused (sections 2.5, 2.9, 3.7.11 and 6.1, that memory may be wanted own).
     pub fn apply(&mut self, event: &Event) -> Result<EventReply, NoMemory>
         requires event { IsEvent event.now }
         ensures reply { IfOk result (λ reply. reply ≡ reply_of self.old event.now) }
         ensures ok { OnOk result (self.new ≡ step self.old event.now) }
         ensures err { OnErr result (self.new ≡ self.old) }
         ensures asks { is_asking event.now ≡ true → IsOk result }
+        ensures faults { IsErr result → fault_of self.old event.now ≡ None }
     {
         match event {
             Event::Bind { kind, name } => self.bind(*kind, *name),
@@ -105,6 +107,7 @@ impl Objects {
             ≡ reply_of self.old (Event.BufferBytes name bytes.now)) }
         ensures ok { OnOk result (self.new ≡ step self.old (Event.BufferBytes name bytes.now)) }
         ensures err { OnErr result (self.new ≡ self.old) }
+        ensures faults { IsErr result → fault_of self.old (Event.BufferBytes name bytes.now) ≡ None }
     {
         match self
             .buffers
@@ -140,6 +143,7 @@ impl Objects {
         ensures reply { IfOk result (λ reply. reply ≡ reply_of self.old (Event.Gen kind n)) }
         ensures ok { OnOk result (self.new ≡ step self.old (Event.Gen kind n)) }
         ensures err { OnErr result (self.new ≡ self.old) }
+        ensures faults { IsErr result → fault_of self.old (Event.Gen kind n) ≡ None }
     {
         match kind {
             Kind::Buffer => {
