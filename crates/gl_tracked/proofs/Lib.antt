@@ -1,5 +1,7 @@
 pub mod Faults
 pub mod Stepping
+pub mod Deleting
+pub mod Agreeing
 pub mod Stacks
 pub mod ArrayLemmas
 pub mod Keeping

@@ -4,25 +4,14 @@ use Rattle.std.proofs.lemmas.Bool.{true≢false}
 use Rattle.std.proofs.lemmas.Option.{none-some}
 use Rattle.gl_words.specs.Call.{is_answering}
 use Rattle.gl_words.specs.declared.call.Call.{Call}
-use Rattle.gl_words.specs.declared.call.Call.TheVariants.{ActiveTexture, Clear, ClientActiveTexture, ColorPointer, DisableClientState, DrawArrays, EnableClientState, GetIntegerv, GetPointerv, IsEnabled, LoadMatrixx, MatrixMode, MultMatrixx, NormalPointer, PixelStorei, PopMatrix, PushMatrix, TexCoordPointer, VertexPointer}
+use Rattle.gl_words.specs.declared.call.Call.TheVariants.{ActiveTexture, BindBuffer, BufferData, BufferSubData, ClientActiveTexture, ColorPointer, DeleteBuffers, DeleteTextures, DisableClientState, DrawArrays, DrawElements, EnableClientState, GetIntegerv, GetPointerv, IsEnabled, LoadMatrixx, MatrixMode, MultMatrixx, NormalPointer, PixelStorei, PopMatrix, PushMatrix, TexCoordPointer, VertexPointer}
 use Rattle.gl_words.specs.declared.error.GlError.{GlError}
 use Rattle.gl_memory.specs.Segment.{Segment}
-use Rattle.gl_memory.specs.declared.piece.Piece.{Piece}
 use Rattle.gl_tracked.specs.declared.tracked.Tracked.{Tracked}
 use Rattle.gl_tracked.specs.Fault.{fault_of}
-use Rattle.gl_tracked.specs.Ranges.{range_of_matrix, ranges_of_draw}
+use Rattle.gl_tracked.specs.Ranges.{elements_read_all, range_of_matrix, ranges_of_draw, ranges_of_elements}
 use Rattle.gl_tracked.specs.Reads.{Ranges}
-use Rattle.gl_tracked.specs.Step.{set_by, unless_fault, tracked_after, none_on_fault, ranges_of, reads_of, number_asked}
-
-set_by-memory : (tracked : Tracked) (call : Call) (m n : List Segment) → set_by tracked call m ≡ set_by tracked call n
-unfolding set_by
-set_by-memory tracked (Clear mask) m n = refl
-set_by-memory tracked _ m n = refl
-
--- no call's step depends on memory
-pub tracked_after-memory : (tracked : Tracked) (call : Call) (m n : List Segment) → tracked_after tracked call m ≡ tracked_after tracked call n
-unfolding tracked_after
-tracked_after-memory tracked call m n = ap (unless_fault (fault_of tracked call) tracked) (set_by-memory tracked call m n)
+use Rattle.gl_tracked.specs.Step.{set_by, unless_fault, tracked_after, ranges_of, reads_all, reads_by, reads_of, number_asked}
 
 set_by-asked : (tracked : Tracked) (call : Call) (memory : List Segment) (number : ℤ) → number_asked tracked call ≡ Some number → set_by tracked call memory ≡ tracked
 unfolding number_asked set_by
@@ -53,8 +42,10 @@ number_asked-unanswered tracked _ h = refl
 -- whether a call may change tracked state; own
 abbrev pub may_set : Call → Bool
 may_set (ActiveTexture texture) = true
+may_set (BindBuffer target buffer) = true
 may_set (ClientActiveTexture texture) = true
 may_set (ColorPointer size kind stride pointer) = true
+may_set (DeleteBuffers n names) = true
 may_set (DisableClientState array) = true
 may_set (EnableClientState array) = true
 may_set (MatrixMode mode) = true
@@ -68,7 +59,12 @@ may_set _ = false
 
 -- whether a call may read memory; own
 abbrev pub may_read : Call → Bool
+may_read (BufferData target size source usage) = true
+may_read (BufferSubData target offset size source) = true
+may_read (DeleteBuffers n names) = true
+may_read (DeleteTextures n names) = true
 may_read (DrawArrays mode first count) = true
+may_read (DrawElements mode count kind indices) = true
 may_read (LoadMatrixx matrix) = true
 may_read (MultMatrixx matrix) = true
 may_read _ = false
@@ -76,8 +72,10 @@ may_read _ = false
 set_by-others : (tracked : Tracked) (call : Call) (memory : List Segment) → may_set call ≡ false → set_by tracked call memory ≡ tracked
 unfolding set_by
 set_by-others tracked (ActiveTexture texture) memory h = absurd (cc)
+set_by-others tracked (BindBuffer target buffer) memory h = absurd (cc)
 set_by-others tracked (ClientActiveTexture texture) memory h = absurd (cc)
 set_by-others tracked (ColorPointer size kind stride pointer) memory h = absurd (cc)
+set_by-others tracked (DeleteBuffers n names) memory h = absurd (cc)
 set_by-others tracked (DisableClientState array) memory h = absurd (cc)
 set_by-others tracked (EnableClientState array) memory h = absurd (cc)
 set_by-others tracked (MatrixMode mode) memory h = absurd (cc)
@@ -99,8 +97,10 @@ tracked_after-others tracked call memory h =
 answering-sets_nothing : (call : Call) → is_answering call ≡ true → may_set call ≡ false
 unfolding is_answering
 answering-sets_nothing (ActiveTexture texture) h = absurd (cc)
+answering-sets_nothing (BindBuffer target buffer) h = absurd (cc)
 answering-sets_nothing (ClientActiveTexture texture) h = absurd (cc)
 answering-sets_nothing (ColorPointer size kind stride pointer) h = absurd (cc)
+answering-sets_nothing (DeleteBuffers n names) h = absurd (cc)
 answering-sets_nothing (DisableClientState array) h = absurd (cc)
 answering-sets_nothing (EnableClientState array) h = absurd (cc)
 answering-sets_nothing (MatrixMode mode) h = absurd (cc)
@@ -127,51 +127,63 @@ unfolding tracked_after
 tracked_after-no_fault tracked call memory h = ap (λ (fault : Option GlError). unless_fault fault tracked (set_by tracked call memory)) h
 
 -- a call without an error reads what the table says
-pub reads_of-no_fault : (tracked : Tracked) (call : Call) (memory : List Segment) → fault_of tracked call ≡ None → reads_of tracked call memory ≡ Ranges (ranges_of tracked call)
+pub reads_of-no_fault : (tracked : Tracked) (call : Call) (memory : List Segment) → fault_of tracked call ≡ None
+    → reads_of tracked call memory ≡ reads_by None (reads_all tracked call) (ranges_of tracked call memory)
 unfolding reads_of
-reads_of-no_fault tracked call memory h = ap (λ (fault : Option GlError). Ranges (none_on_fault fault (ranges_of tracked call))) h
+reads_of-no_fault tracked call memory h = ap (λ (fault : Option GlError). reads_by fault (reads_all tracked call) (ranges_of tracked call memory)) h
 
 -- a call with an error reads nothing; section 2.5
 pub reads_of-fault : (tracked : Tracked) (call : Call) (memory : List Segment) (error : GlError) → fault_of tracked call ≡ Some error → reads_of tracked call memory ≡ Ranges []
 unfolding reads_of
-reads_of-fault tracked call memory error h = ap (λ (fault : Option GlError). Ranges (none_on_fault fault (ranges_of tracked call))) h
+reads_of-fault tracked call memory error h = ap (λ (fault : Option GlError). reads_by fault (reads_all tracked call) (ranges_of tracked call memory)) h
 
-ranges_of-draw : (tracked : Tracked) (mode : ℕ) (first count : ℤ) → ranges_of tracked (DrawArrays mode first count) ≡ ranges_of_draw tracked first count
-unfolding ranges_of
-ranges_of-draw tracked mode first count = refl
+read_by_draw : (tracked : Tracked) (mode : ℕ) (first count : ℤ) (memory : List Segment)
+    → reads_by None (reads_all tracked (DrawArrays mode first count)) (ranges_of tracked (DrawArrays mode first count) memory) ≡ Ranges (ranges_of_draw tracked first count)
+unfolding reads_all ranges_of
+read_by_draw tracked mode first count memory = refl
 
 -- a draw without an error reads its elements; section 2.8
 pub reads_of-draw : (tracked : Tracked) (mode : ℕ) (first count : ℤ) (memory : List Segment) → fault_of tracked (DrawArrays mode first count) ≡ None
     → reads_of tracked (DrawArrays mode first count) memory ≡ Ranges (ranges_of_draw tracked first count)
-reads_of-draw tracked mode first count memory h = reads_of-no_fault tracked (DrawArrays mode first count) memory h ∙ ap Ranges (ranges_of-draw tracked mode first count)
+reads_of-draw tracked mode first count memory h = reads_of-no_fault tracked (DrawArrays mode first count) memory h ∙ read_by_draw tracked mode first count memory
+
+read_by_elements : (tracked : Tracked) (mode : ℕ) (count : ℤ) (kind indices : ℕ) (memory : List Segment)
+    → reads_by None (reads_all tracked (DrawElements mode count kind indices)) (ranges_of tracked (DrawElements mode count kind indices) memory)
+    ≡ reads_by None (elements_read_all tracked count) (ranges_of_elements tracked count kind indices memory)
+unfolding reads_all ranges_of
+read_by_elements tracked mode count kind indices memory = refl
+
+-- a draw by indices without an error reads everything, or the elements that they name and the indices; sections 2.8 and 2.9
+pub reads_of-elements : (tracked : Tracked) (mode : ℕ) (count : ℤ) (kind indices : ℕ) (memory : List Segment) → fault_of tracked (DrawElements mode count kind indices) ≡ None
+    → reads_of tracked (DrawElements mode count kind indices) memory ≡ reads_by None (elements_read_all tracked count) (ranges_of_elements tracked count kind indices memory)
+reads_of-elements tracked mode count kind indices memory h = reads_of-no_fault tracked (DrawElements mode count kind indices) memory h ∙ read_by_elements tracked mode count kind indices memory
 
 -- a matrix reads its 16 numbers; section 2.10.2
 pub reads_of-load : (tracked : Tracked) (matrix : ℕ) (memory : List Segment) → reads_of tracked (LoadMatrixx matrix) memory ≡ Ranges (range_of_matrix matrix ∷ [])
-unfolding reads_of fault_of ranges_of
+unfolding reads_of fault_of reads_all ranges_of
 reads_of-load tracked matrix memory = refl
 
 pub reads_of-multiply : (tracked : Tracked) (matrix : ℕ) (memory : List Segment) → reads_of tracked (MultMatrixx matrix) memory ≡ Ranges (range_of_matrix matrix ∷ [])
-unfolding reads_of fault_of ranges_of
+unfolding reads_of fault_of reads_all ranges_of
 reads_of-multiply tracked matrix memory = refl
 
--- what a call reads is the same on any two memories
-pub reads_of-memory : (tracked : Tracked) (call : Call) (m n : List Segment) → reads_of tracked call m ≡ reads_of tracked call n
-unfolding reads_of
-reads_of-memory tracked call m n = refl
+reads_by-nothing : (fault : Option GlError) → reads_by fault false [] ≡ Ranges []
+reads_by-nothing None = refl
+reads_by-nothing (Some error) = refl
 
-none_on_fault-none : (fault : Option GlError) → none_on_fault fault [] ≡ []
-none_on_fault-none None = refl
-none_on_fault-none (Some error) = refl
-
-ranges_of-none : (tracked : Tracked) (call : Call) → may_read call ≡ false → ranges_of tracked call ≡ []
-unfolding ranges_of
-ranges_of-none tracked (DrawArrays mode first count) h = absurd (cc)
-ranges_of-none tracked (LoadMatrixx matrix) h = absurd (cc)
-ranges_of-none tracked (MultMatrixx matrix) h = absurd (cc)
-ranges_of-none tracked _ h = refl
+reads_by-none : (tracked : Tracked) (call : Call) (memory : List Segment) (fault : Option GlError) → may_read call ≡ false → reads_by fault (reads_all tracked call) (ranges_of tracked call memory) ≡ Ranges []
+unfolding ranges_of reads_all
+reads_by-none tracked (BufferData target size source usage) memory fault h = absurd (cc)
+reads_by-none tracked (BufferSubData target offset size source) memory fault h = absurd (cc)
+reads_by-none tracked (DeleteBuffers n names) memory fault h = absurd (cc)
+reads_by-none tracked (DeleteTextures n names) memory fault h = absurd (cc)
+reads_by-none tracked (DrawArrays mode first count) memory fault h = absurd (cc)
+reads_by-none tracked (DrawElements mode count kind indices) memory fault h = absurd (cc)
+reads_by-none tracked (LoadMatrixx matrix) memory fault h = absurd (cc)
+reads_by-none tracked (MultMatrixx matrix) memory fault h = absurd (cc)
+reads_by-none tracked _ memory fault h = reads_by-nothing fault
 
 -- no other call reads memory
 pub reads_of-none : (tracked : Tracked) (call : Call) (memory : List Segment) → may_read call ≡ false → reads_of tracked call memory ≡ Ranges []
 unfolding reads_of
-reads_of-none tracked call memory h =
-    ap (λ (ranges : List Piece). Ranges (none_on_fault (fault_of tracked call) ranges)) (ranges_of-none tracked call h) ∙ ap Ranges (none_on_fault-none (fault_of tracked call))
+reads_of-none tracked call memory h = reads_by-none tracked call memory (fault_of tracked call) h

@@ -1,4 +1,4 @@
--- The enumerants that calls on state which isn't tracked accept: those of OpenGL ES 1.1.12. What calls set with them isn't told here.
+-- The enumerants that calls on buffers, on state which isn't tracked, and draws accept: those of OpenGL ES 1.1.12. What calls set with them isn't told here.
 use Rattle.std.specs.Prelude.{ℕ, List, [], ◌∷◌}
 
 -- the comparisons: NEVER, LESS, EQUAL, LEQUAL, GREATER, NOTEQUAL, GEQUAL and ALWAYS; sections 4.1.4 and 4.1.6
@@ -28,3 +28,15 @@ shadings = 0x1D00 ∷ 0x1D01 ∷ []
 -- the modes of draws: POINTS, LINES, LINE_LOOP, LINE_STRIP, TRIANGLES, TRIANGLE_STRIP and TRIANGLE_FAN; section 2.6.1
 abbrev pub modes : List ℕ
 modes = 0 ∷ 1 ∷ 2 ∷ 3 ∷ 4 ∷ 5 ∷ 6 ∷ []
+
+-- the targets of buffers: ARRAY_BUFFER and ELEMENT_ARRAY_BUFFER; section 2.9
+abbrev pub buffer_targets : List ℕ
+buffer_targets = 0x8892 ∷ 0x8893 ∷ []
+
+-- the usages of buffers: STATIC_DRAW and DYNAMIC_DRAW; section 2.9
+abbrev pub usages : List ℕ
+usages = 0x88E4 ∷ 0x88E8 ∷ []
+
+-- the types of indices: UNSIGNED_BYTE and UNSIGNED_SHORT; section 2.8
+abbrev pub index_types : List ℕ
+index_types = 0x1401 ∷ 0x1403 ∷ []

@@ -1,13 +1,13 @@
 -- Which error a call makes, as tracked state and the call show it; sections 2.5 and those of the calls.
-use Rattle.std.specs.Prelude.{ℕ, ◌==◌, nat_lt, ℤ, pos, int_le, int_lt, Bool, true, false, ◌&&◌, ◌||◌, bit_and, if◌then◌else◌, List, [], ◌∷◌, Option, Some, None, is_some}
+use Rattle.std.specs.Prelude.{ℕ, ◌==◌, nat_lt, ℤ, pos, int_le, int_lt, Bool, true, false, not, ◌&&◌, ◌||◌, bit_and, if◌then◌else◌, List, [], ◌∷◌, Option, Some, None, is_some}
 use Rattle.std.specs.List.{list_any}
 use Rattle.std.specs.Ordering.{int_eq}
 use Rattle.gl_words.specs.declared.call.Call.{Call}
-use Rattle.gl_words.specs.declared.call.Call.TheVariants.{ActiveTexture, AlphaFuncx, BlendFunc, Clear, ClearColorx, ClearDepthx, ClientActiveTexture, Color4x, ColorMask, ColorPointer, CullFace, DepthFunc, DepthMask, DepthRangex, Disable, DisableClientState, DrawArrays, Enable, EnableClientState, Finish, Flush, FrontFace, Frustumx, GetError, GetFixedv, GetIntegerv, GetPointerv, IsEnabled, LoadIdentity, LoadMatrixx, MatrixMode, MultMatrixx, MultiTexCoord4x, Normal3x, NormalPointer, Orthox, PixelStorei, PopMatrix, PushMatrix, ReadPixels, Rotatex, Scalex, Scissor, ShadeModel, TexCoordPointer, Translatex, VertexPointer, Viewport}
+use Rattle.gl_words.specs.declared.call.Call.TheVariants.{ActiveTexture, AlphaFuncx, BindBuffer, BindTexture, BlendFunc, BufferData, BufferSubData, Clear, ClearColorx, ClearDepthx, ClientActiveTexture, Color4x, ColorMask, ColorPointer, CullFace, DeleteBuffers, DeleteTextures, DepthFunc, DepthMask, DepthRangex, Disable, DisableClientState, DrawArrays, DrawElements, Enable, EnableClientState, Finish, Flush, FrontFace, Frustumx, GenBuffers, GenTextures, GetError, GetFixedv, GetIntegerv, GetPointerv, IsBuffer, IsEnabled, IsTexture, LoadIdentity, LoadMatrixx, MatrixMode, MultMatrixx, MultiTexCoord4x, Normal3x, NormalPointer, Orthox, PixelStorei, PopMatrix, PushMatrix, ReadPixels, Rotatex, Scalex, Scissor, ShadeModel, TexCoordPointer, Translatex, VertexPointer, Viewport}
 use Rattle.gl_words.specs.declared.error.GlError.{GlError}
-use Rattle.gl_words.specs.declared.error.GlError.TheVariants.{InvalidEnum, InvalidValue, StackOverflow, StackUnderflow}
+use Rattle.gl_words.specs.declared.error.GlError.TheVariants.{InvalidEnum, InvalidOperation, InvalidValue, OutOfMemory, StackOverflow, StackUnderflow}
 use Rattle.gl_tracked.specs.declared.tracked.Tracked.{Tracked}
-use Rattle.gl_tracked.specs.Enumerants.{comparisons, dest_factors, faces, modes, shadings, source_factors, windings}
+use Rattle.gl_tracked.specs.Enumerants.{buffer_targets, comparisons, dest_factors, faces, index_types, modes, shadings, source_factors, usages, windings}
 use Rattle.gl_tracked.specs.Gets.{integer_asked, pointer_asked, other_integers, fixed_names}
 use Rattle.gl_tracked.specs.Stack.{is_matrix_mode, current_depth, current_most}
 use Rattle.gl_tracked.specs.Tracked.{alignments, alignment_names, array_sizes, arrays, capabilities, colour_types, units, vertex_types}
@@ -28,7 +28,7 @@ is_box left right bottom top near far = (differ left right && differ bottom top)
 unfoldable pub is_frustum : ℤ → ℤ → ℤ → ℤ → ℤ → ℤ → Bool
 is_frustum left right bottom top near far = (int_lt (pos 0) near && int_lt (pos 0) far) && is_box left right bottom top near far
 
--- neither side of a viewport or a scissor is below zero; sections 2.10.1 and 4.1.2
+-- neither of two numbers is below zero, as the sides of a viewport or a scissor, or a place in a buffer and a count of bytes; sections 2.9, 2.10.1 and 4.1.2
 unfoldable pub is_extent : ℤ → ℤ → Bool
 is_extent width height = int_le (pos 0) width && int_le (pos 0) height
 
@@ -62,11 +62,54 @@ is_readable width height = is_extent width height && (int_le width (pos 512) && 
 unfoldable pub is_drawable : ℤ → ℤ → Bool
 is_drawable first count = int_le (pos 0) first && (int_le (pos 0) count && int_le count (pos 65536))
 
--- the first error test of a call that fails, or none; sections 2.6.1, 2.7, 2.8, 2.10.1, 2.10.2, 2.12.1, 2.12.7, 3.5.1, 3.6.1, 4.1.2, 4.1.4, 4.1.6, 4.1.7, 4.2.3, 4.3.1 and 6.1, and chapters 2 to 4 for capabilities
+-- elements that indices may name: 0 to 65536 of them; section 2.8, the most own
+unfoldable pub is_element_count : ℤ → Bool
+is_element_count count = int_le (pos 0) count && int_le count (pos 65536)
+
+-- names that may be given or deleted by one call: 0 to 256 of them; sections 2.9 and 3.7.11, the most own
+unfoldable pub is_name_count : ℤ → Bool
+is_name_count count = int_le (pos 0) count && int_le count (pos 256)
+
+-- the bytes that a buffer may have: up to 67108864; own
+unfoldable pub is_buffer_size : ℤ → Bool
+is_buffer_size size = int_le size (pos 67108864)
+
+-- the buffer that is bound to a target, ARRAY_BUFFER or else ELEMENT_ARRAY_BUFFER; section 2.9
+unfoldable pub bound_buffer : Tracked → ℕ → ℕ
+bound_buffer tracked target = if target == 0x8892 then tracked.array_buffer else tracked.element_buffer
+
+-- a buffer is bound to a target; section 2.9
+unfoldable pub is_bound : Tracked → ℕ → Bool
+is_bound tracked target = not (bound_buffer tracked target == 0)
+
+-- the first error of BufferData: its target, its usage, a size below zero, no buffer that is bound, and a size that no buffer may have; section 2.9, the last own
+unfoldable pub data_fault : Tracked → ℕ → ℤ → ℕ → Option GlError
+data_fault tracked target size usage =
+    first_failed (
+    (is_among buffer_targets target, InvalidEnum) ∷
+    (is_among usages usage, InvalidEnum) ∷
+    (int_le (pos 0) size, InvalidValue) ∷
+    (is_bound tracked target, InvalidOperation) ∷
+    (is_buffer_size size, OutOfMemory) ∷ [])
+
+-- the first error of BufferSubData: its target, an offset or a size below zero, no buffer that is bound, and a size that no buffer has; section 2.9, the order own
+unfoldable pub part_fault : Tracked → ℕ → ℤ → ℤ → Option GlError
+part_fault tracked target offset size =
+    first_failed (
+    (is_among buffer_targets target, InvalidEnum) ∷
+    (is_extent offset size, InvalidValue) ∷
+    (is_bound tracked target, InvalidOperation) ∷
+    (is_buffer_size size, InvalidValue) ∷ [])
+
+-- the first error test of a call that fails, or none; sections 2.6.1, 2.7, 2.8, 2.9, 2.10.1, 2.10.2, 2.12.1, 2.12.7, 3.5.1, 3.6.1, 3.7.11, 4.1.2, 4.1.4, 4.1.6, 4.1.7, 4.2.3, 4.3.1 and 6.1, and chapters 2 to 4 for capabilities
 unfoldable pub fault_of : Tracked → Call → Option GlError
 fault_of tracked (ActiveTexture texture) = if is_among units texture then None else Some InvalidEnum
 fault_of tracked (AlphaFuncx func reference) = if is_among comparisons func then None else Some InvalidEnum
+fault_of tracked (BindBuffer target buffer) = if is_among buffer_targets target then None else Some InvalidEnum
+fault_of tracked (BindTexture target texture) = if target == 0x0DE1 then None else Some InvalidEnum
 fault_of tracked (BlendFunc sfactor dfactor) = if is_among source_factors sfactor && is_among dest_factors dfactor then None else Some InvalidEnum
+fault_of tracked (BufferData target size source usage) = data_fault tracked target size usage
+fault_of tracked (BufferSubData target offset size source) = part_fault tracked target offset size
 fault_of tracked (Clear mask) = if is_known_mask mask then None else Some InvalidValue
 fault_of tracked (ClearColorx red green blue alpha) = None
 fault_of tracked (ClearDepthx depth) = None
@@ -75,23 +118,31 @@ fault_of tracked (Color4x red green blue alpha) = None
 fault_of tracked (ColorMask red green blue alpha) = None
 fault_of tracked (ColorPointer size kind stride pointer) = pointer_fault (size_is_among (pos 4 ∷ []) size) (is_among colour_types kind) stride
 fault_of tracked (CullFace mode) = if is_among faces mode then None else Some InvalidEnum
+fault_of tracked (DeleteBuffers n names) = if is_name_count n then None else Some InvalidValue
+fault_of tracked (DeleteTextures n names) = if is_name_count n then None else Some InvalidValue
 fault_of tracked (DepthFunc func) = if is_among comparisons func then None else Some InvalidEnum
 fault_of tracked (DepthMask flag) = None
 fault_of tracked (DepthRangex near far) = None
 fault_of tracked (Disable cap) = if is_among capabilities cap then None else Some InvalidEnum
 fault_of tracked (DisableClientState array) = if is_among arrays array then None else Some InvalidEnum
 fault_of tracked (DrawArrays mode first count) = first_failed ((is_among modes mode, InvalidEnum) ∷ (is_drawable first count, InvalidValue) ∷ [])
+fault_of tracked (DrawElements mode count kind indices) =
+    first_failed ((is_among modes mode, InvalidEnum) ∷ (is_among index_types kind, InvalidEnum) ∷ (is_element_count count, InvalidValue) ∷ [])
 fault_of tracked (Enable cap) = if is_among capabilities cap then None else Some InvalidEnum
 fault_of tracked (EnableClientState array) = if is_among arrays array then None else Some InvalidEnum
 fault_of tracked Finish = None
 fault_of tracked Flush = None
 fault_of tracked (FrontFace mode) = if is_among windings mode then None else Some InvalidEnum
 fault_of tracked (Frustumx left right bottom top near far) = if is_frustum left right bottom top near far then None else Some InvalidValue
+fault_of tracked (GenBuffers n names) = if is_name_count n then None else Some InvalidValue
+fault_of tracked (GenTextures n names) = if is_name_count n then None else Some InvalidValue
 fault_of tracked GetError = None
 fault_of tracked (GetFixedv pname params) = if is_among fixed_names pname then None else Some InvalidEnum
 fault_of tracked (GetIntegerv pname params) = if is_some (integer_asked tracked pname) || is_among other_integers pname then None else Some InvalidEnum
 fault_of tracked (GetPointerv pname params) = if is_some (pointer_asked tracked pname) then None else Some InvalidEnum
+fault_of tracked (IsBuffer buffer) = None
 fault_of tracked (IsEnabled cap) = if is_among capabilities cap || is_among arrays cap then None else Some InvalidEnum
+fault_of tracked (IsTexture texture) = None
 fault_of tracked LoadIdentity = None
 fault_of tracked (LoadMatrixx matrix) = None
 fault_of tracked (MatrixMode mode) = if is_matrix_mode mode then None else Some InvalidEnum

@@ -6,6 +6,9 @@ pub mod Gets
 pub mod Fault
 pub mod Reads
 pub mod Element
+pub mod Count
+pub mod Indices
+pub mod Names
 pub mod Ranges
 pub mod Step
 pub mod Finding

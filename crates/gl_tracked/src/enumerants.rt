@@ -1,7 +1,7 @@
-//! The enumerants that calls on state which isn't tracked accept. What such a call sets isn't told here.
+//! The enumerants that calls on buffers, on state which isn't tracked, and draws accept. What such a call sets isn't told here.
 
 ghost use Rattle.std.specs.Prelude.{◌≡◌, ◌&&◌};
-ghost use Rattle.gl_tracked.specs.Enumerants.{comparisons, dest_factors, faces, modes, shadings, source_factors, windings};
+ghost use Rattle.gl_tracked.specs.Enumerants.{buffer_targets, comparisons, dest_factors, faces, index_types, modes, shadings, source_factors, usages, windings};
 ghost use Rattle.gl_tracked.specs.Fault.{is_among};
 
 /// Whether a number is a comparison, NEVER to ALWAYS (sections 4.1.4 and 4.1.6).
@@ -72,4 +72,28 @@ pub(crate) fn is_mode(mode: u32) -> bool
     ensures { result ≡ is_among modes mode }
 {
     matches!(mode, 0 | 1 | 2 | 3 | 4 | 5 | 6)
+}
+
+/// Whether a number is ARRAY_BUFFER or ELEMENT_ARRAY_BUFFER (section 2.9).
+#[tactic(auto, unfolding(crate::specs::Fault::is_among))]
+pub(crate) fn is_buffer_target(target: u32) -> bool
+    ensures { result ≡ is_among buffer_targets target }
+{
+    matches!(target, 0x8892 | 0x8893)
+}
+
+/// Whether a number is STATIC_DRAW or DYNAMIC_DRAW (section 2.9).
+#[tactic(auto, unfolding(crate::specs::Fault::is_among))]
+pub(crate) fn is_usage(usage: u32) -> bool
+    ensures { result ≡ is_among usages usage }
+{
+    matches!(usage, 0x88E4 | 0x88E8)
+}
+
+/// Whether a number is UNSIGNED_BYTE or UNSIGNED_SHORT (section 2.8).
+#[tactic(auto, unfolding(crate::specs::Fault::is_among))]
+pub(crate) fn is_index_type(kind: u32) -> bool
+    ensures { result ≡ is_among index_types kind }
+{
+    matches!(kind, 0x1401 | 0x1403)
 }

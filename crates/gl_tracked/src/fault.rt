@@ -3,15 +3,18 @@
 ghost use Rattle.std.specs.Prelude.{◌≡◌, ◌==◌, ◌||◌, pos, true, if◌then◌else◌, ◌∷◌, [], Some, None, is_some};
 ghost use Rattle.gl_tracked.specs.declared.tracked.Tracked.{Tracked};
 ghost use Rattle.gl_tracked.specs.Arrays.{gives_pointer};
-ghost use Rattle.gl_tracked.specs.Enumerants.{modes};
-ghost use Rattle.gl_tracked.specs.Fault.{differ, fault_of, first_failed, has_sides, is_among, is_box, is_drawable, is_extent, is_frustum, is_known_mask, is_readable, pointer_fault, size_is_among};
+ghost use Rattle.gl_tracked.specs.Enumerants.{buffer_targets, index_types, modes, usages};
+ghost use Rattle.gl_tracked.specs.Fault.{bound_buffer, data_fault, differ, fault_of, first_failed, has_sides, is_among, is_bound, is_box, is_buffer_size, is_drawable, is_element_count, is_extent, is_frustum, is_known_mask, is_name_count, is_readable, part_fault, pointer_fault, size_is_among};
 ghost use Rattle.gl_tracked.specs.Gets.{enabled_asked, fixed_names, integer_asked, other_integers, pointer_asked};
 ghost use Rattle.gl_tracked.specs.Finding.{fault_found, number_found};
 ghost use Rattle.gl_tracked.specs.Stack.{is_matrix_mode};
 ghost use Rattle.gl_tracked.specs.Step.{number_asked};
 ghost use Rattle.gl_tracked.specs.Tracked.{alignments, alignment_names, array_sizes, arrays, capabilities, colour_types, units, vertex_types};
 
-use crate::enumerants::{are_factors, is_comparison, is_face, is_mode, is_shading, is_winding};
+use crate::enumerants::{
+    are_factors, is_buffer_target, is_comparison, is_face, is_index_type, is_mode, is_shading,
+    is_usage, is_winding,
+};
 use crate::finding::Finding;
 use crate::tracked::Tracked;
 use gl_words::{Call, GlError};
@@ -36,9 +39,25 @@ impl Tracked {
         match call {
             Call::ActiveTexture { texture } => Finding::Fault(enum_unless(is_unit(*texture))),
             Call::AlphaFuncx { func, .. } => Finding::Fault(enum_unless(is_comparison(*func))),
+            Call::BindBuffer { target, .. } => {
+                Finding::Fault(enum_unless(is_buffer_target(*target)))
+            }
+            Call::BindTexture { target, .. } => Finding::Fault(enum_unless(*target == 0x0DE1)),
             Call::BlendFunc { sfactor, dfactor } => Finding::Fault(enum_unless(are_factors(
                 *sfactor, *dfactor,
             ))),
+            Call::BufferData {
+                target,
+                size,
+                usage,
+                ..
+            } => { Finding::Fault(self.data_fault(*target, *size, *usage)) }
+            Call::BufferSubData {
+                target,
+                offset,
+                size,
+                ..
+            } => { Finding::Fault(self.part_fault(*target, *offset, *size)) }
             Call::Clear { mask } => Finding::Fault(value_unless(is_known_mask(*mask))),
             Call::ClientActiveTexture { texture } => Finding::Fault(enum_unless(is_unit(*texture))),
             Call::ColorPointer { .. }
@@ -46,6 +65,10 @@ impl Tracked {
             | Call::TexCoordPointer { .. }
             | Call::VertexPointer { .. } => Finding::Fault(array_fault(call)),
             Call::CullFace { mode } => Finding::Fault(enum_unless(is_face(*mode))),
+            Call::DeleteBuffers { n, .. }
+            | Call::DeleteTextures { n, .. }
+            | Call::GenBuffers { n, .. }
+            | Call::GenTextures { n, .. } => Finding::Fault(value_unless(is_name_count(*n))),
             Call::DepthFunc { func } => Finding::Fault(enum_unless(is_comparison(*func))),
             Call::Disable { cap } => Finding::Fault(enum_unless(is_capability(*cap))),
             Call::DisableClientState { array } => Finding::Fault(enum_unless(is_array_name(
@@ -54,6 +77,12 @@ impl Tracked {
             Call::DrawArrays { mode, first, count } => {
                 Finding::Fault(draw_fault(*mode, *first, *count))
             }
+            Call::DrawElements {
+                mode,
+                count,
+                kind,
+                ..
+            } => { Finding::Fault(elements_fault(*mode, *count, *kind)) }
             Call::Enable { cap } => Finding::Fault(enum_unless(is_capability(*cap))),
             Call::EnableClientState { array } => Finding::Fault(enum_unless(is_array_name(*array))),
             Call::FrontFace { mode } => Finding::Fault(enum_unless(is_winding(*mode))),
@@ -87,7 +116,76 @@ impl Tracked {
             Call::Viewport { width, height, .. } => Finding::Fault(value_unless(is_extent(
                 *width, *height,
             ))),
-            _ => Finding::Fault(None),
+            Call::ClearColorx { .. }
+            | Call::ClearDepthx { .. }
+            | Call::Color4x { .. }
+            | Call::ColorMask { .. }
+            | Call::DepthMask { .. }
+            | Call::DepthRangex { .. }
+            | Call::Finish
+            | Call::Flush
+            | Call::GetError
+            | Call::IsBuffer { .. }
+            | Call::IsTexture { .. }
+            | Call::LoadIdentity
+            | Call::LoadMatrixx { .. }
+            | Call::MultMatrixx { .. }
+            | Call::Normal3x { .. }
+            | Call::Rotatex { .. }
+            | Call::Scalex { .. }
+            | Call::Translatex { .. } => Finding::Fault(None),
+        }
+    }
+
+    /// The buffer that is bound to a target, ARRAY_BUFFER or else ELEMENT_ARRAY_BUFFER (section 2.9).
+    #[tactic(auto, unfolding(crate::specs::Fault::bound_buffer))]
+    pub fn bound_buffer(&self, target: u32) -> u32
+        ensures { result ≡ bound_buffer self.now target }
+    {
+        if target == 0x8892 {
+            self.array_buffer
+        } else {
+            self.element_buffer
+        }
+    }
+
+    /// Whether a buffer is bound to a target (section 2.9).
+    #[tactic(auto, unfolding(crate::specs::Fault::is_bound))]
+    fn is_bound(&self, target: u32) -> bool
+        ensures { result ≡ is_bound self.now target }
+    {
+        self.bound_buffer(target) != 0
+    }
+
+    /// The first error of BufferData (section 2.9, the greatest size own).
+    #[tactic(auto, unfolding(crate::specs::Fault::data_fault, crate::specs::Fault::first_failed))]
+    fn data_fault(&self, target: u32, size: i32, usage: u32) -> Option<GlError>
+        ensures { result ≡ data_fault self.now target size usage }
+    {
+        if !is_buffer_target(target) || !is_usage(usage) {
+            Some(GlError::InvalidEnum)
+        } else if size < 0 {
+            Some(GlError::InvalidValue)
+        } else if self.is_bound(target) {
+            error_unless(is_buffer_size(size), GlError::OutOfMemory)
+        } else {
+            Some(GlError::InvalidOperation)
+        }
+    }
+
+    /// The first error of BufferSubData (section 2.9, the greatest size own).
+    #[tactic(auto, unfolding(crate::specs::Fault::part_fault, crate::specs::Fault::first_failed))]
+    fn part_fault(&self, target: u32, offset: i32, size: i32) -> Option<GlError>
+        ensures { result ≡ part_fault self.now target offset size }
+    {
+        if !is_buffer_target(target) {
+            Some(GlError::InvalidEnum)
+        } else if !is_extent(offset, size) {
+            Some(GlError::InvalidValue)
+        } else if self.is_bound(target) {
+            value_unless(is_buffer_size(size))
+        } else {
+            Some(GlError::InvalidOperation)
         }
     }
 
@@ -249,6 +347,21 @@ fn draw_fault(mode: u32, first: i32, count: i32) -> Option<GlError>
 {
     if is_mode(mode) {
         value_unless(is_drawable(first, count))
+    } else {
+        Some(GlError::InvalidEnum)
+    }
+}
+
+/// The first error of DrawElements (sections 2.6.1 and 2.8).
+#[tactic(auto, unfolding(crate::specs::Fault::first_failed))]
+fn elements_fault(mode: u32, count: i32, kind: u32) -> Option<GlError>
+    ensures { result ≡ first_failed (
+        (is_among modes mode, GlError.InvalidEnum) ∷
+        (is_among index_types kind, GlError.InvalidEnum) ∷
+        (is_element_count count, GlError.InvalidValue) ∷ []) }
+{
+    if is_mode(mode) && is_index_type(kind) {
+        value_unless(is_element_count(count))
     } else {
         Some(GlError::InvalidEnum)
     }
@@ -422,7 +535,7 @@ fn is_frustum(left: i32, right: i32, bottom: i32, top: i32, near: i32, far: i32)
     0 < near && 0 < far && is_box(left, right, bottom, top, near, far)
 }
 
-/// Whether neither side of a viewport or a scissor is below zero (sections 2.10.1 and 4.1.2).
+/// Whether neither of two numbers is below zero, as the sides of a viewport or a scissor (sections 2.9, 2.10.1 and 4.1.2).
 #[tactic(auto, unfolding(crate::specs::Fault::is_extent))]
 fn is_extent(width: i32, height: i32) -> bool
     ensures { result ≡ is_extent width height }
@@ -436,4 +549,28 @@ fn is_drawable(first: i32, count: i32) -> bool
     ensures { result ≡ is_drawable first count }
 {
     0 <= first && 0 <= count && count <= 65536
+}
+
+/// Whether indices may name so many elements (section 2.8, the most own).
+#[tactic(auto, unfolding(crate::specs::Fault::is_element_count))]
+fn is_element_count(count: i32) -> bool
+    ensures { result ≡ is_element_count count }
+{
+    0 <= count && count <= 65536
+}
+
+/// Whether one call may give or delete so many names (sections 2.9 and 3.7.11, the most own).
+#[tactic(auto, unfolding(crate::specs::Fault::is_name_count))]
+fn is_name_count(count: i32) -> bool
+    ensures { result ≡ is_name_count count }
+{
+    0 <= count && count <= 256
+}
+
+/// Whether a buffer may have so many bytes (own).
+#[tactic(auto, unfolding(crate::specs::Fault::is_buffer_size))]
+fn is_buffer_size(size: i32) -> bool
+    ensures { result ≡ is_buffer_size size }
+{
+    size <= 67_108_864
 }

@@ -7,7 +7,11 @@ mod enumerants;
 mod fault;
 mod finding;
 mod gets;
+mod indices;
+mod names;
 mod tracked;
 
 pub use finding::Finding;
+pub use indices::{count_drawn, count_of, index_bytes, index_numbered};
+pub use names::{binding_after, name_at};
 pub use tracked::{ArrayState, Tracked};

@@ -4,9 +4,10 @@ ghost use Rattle.std.specs.Prelude.{◌≡◌, ◌<◌, ◌≤◌, List, None};
 ghost use Rattle.gl_memory.specs.Segment.{Segment};
 ghost use Rattle.gl_tracked.specs.Fault.{fault_of};
 ghost use Rattle.gl_tracked.specs.Stack.{current_stack, current_depth, current_most, with_depth};
-ghost use Rattle.gl_tracked.specs.Step.{set_by, tracked_after, with_alignment};
+ghost use Rattle.gl_tracked.specs.Step.{set_by, tracked_after, with_alignment, with_binding};
 ghost use Rattle.gl_tracked.specs.Tracked.{first_array, first_tracked, IsSound};
 
+use crate::indices::count_of;
 use gl_memory::Memory;
 use gl_words::{Call, GlError};
 
@@ -100,23 +101,27 @@ impl Tracked {
     {
         match fault {
             Some(_) => {}
-            None => self.set(call),
+            None => self.set(call, memory),
         }
     }
 
-    /// Sets what a call without an error sets.
+    /// Sets what a call without an error sets on a memory.
     #[tactic(auto, unfolding(crate::specs::Step::set_by))]
-    fn set(&mut self, call: &Call)
+    fn set<M: Memory>(&mut self, call: &Call, memory: &M)
         requires no_fault { fault_of self.old call.now ≡ None }
-        ensures { (memory : List Segment) → self.new ≡ set_by self.old call.now memory }
+        ensures { self.new ≡ set_by self.old call.now (M.segments memory.now) }
     {
         match call {
             Call::ActiveTexture { texture } => self.active = *texture,
+            Call::BindBuffer { target, buffer } => self.bind(*target, *buffer),
             Call::ClientActiveTexture { texture } => self.client_active = *texture,
             Call::ColorPointer { .. }
             | Call::NormalPointer { .. }
             | Call::TexCoordPointer { .. }
             | Call::VertexPointer { .. } => self.set_pointer(call),
+            Call::DeleteBuffers { n, names } => {
+                self.delete_buffers(*names, count_of(*n), memory);
+            }
             Call::DisableClientState { array } => self.set_enabled(*array, false),
             Call::EnableClientState { array } => self.set_enabled(*array, true),
             Call::MatrixMode { mode } => self.matrix_mode = *mode,
@@ -124,6 +129,18 @@ impl Tracked {
             Call::PopMatrix => self.set_depth(self.depth() - 1),
             Call::PushMatrix => self.set_depth(self.depth() + 1),
             _ => {}
+        }
+    }
+
+    /// Binds a buffer to a target: ARRAY_BUFFER, else ELEMENT_ARRAY_BUFFER (section 2.9).
+    #[tactic(auto, unfolding(crate::specs::Step::with_binding))]
+    fn bind(&mut self, target: u32, buffer: u32)
+        ensures { self.new ≡ with_binding self.old target buffer }
+    {
+        if target == 0x8892 {
+            self.array_buffer = buffer;
+        } else {
+            self.element_buffer = buffer;
         }
     }
 

@@ -5,11 +5,11 @@ use Rattle.gl_tracked.proofs.tracked.Tracked.note.Goals as goal
 
 pub returns-in-None-clause-step : goal.returns-in-None-clause-step
 returns-in-None-clause-step g c =
-    c.set.ensures (g.M.Memory.segments c.args.memory.now)
+    c.set.ensures
     ∙ sym (tracked_after-no_fault c.args.self.now c.args.call.now (g.M.Memory.segments c.args.memory.now) (sym c.requires.fault ∙ c.in-None.is))
 
 pub returns-in-None-clause-sound : goal.returns-in-None-clause-sound
-returns-in-None-clause-sound g c = set-sound c.args.self.now c.set.new.self c.args.call.now (sym c.requires.fault ∙ c.in-None.is) c.set.ensures
+returns-in-None-clause-sound g c = set-sound c.args.self.now c.set.new.self c.args.call.now (g.M.Memory.segments c.args.memory.now) (sym c.requires.fault ∙ c.in-None.is) c.set.ensures
 
 pub returns-in-Some-clause-step : goal.returns-in-Some-clause-step
 returns-in-Some-clause-step g c =
