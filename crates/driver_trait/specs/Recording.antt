@@ -3,8 +3,10 @@ use Rattle.std.proofs.Common.{◌≡◌, ℤ, List, [], ◌∷◌, ◌++◌, Opt
 use Rattle.gl_words.specs.declared.call.Call.{Call}
 use Rattle.gl_memory.specs.Segment.{Segment}
 use Rattle.gl_tracked.specs.declared.tracked.Tracked.{Tracked}
-use Rattle.gl_tracked.specs.Step.{tracked_after, number_asked}
-use Rattle.gl_tracked.proofs.Stepping.{tracked_after-memory, tracked_after-asked, number_asked-unanswered}
+use Rattle.gl_tracked.specs.Reads.{AgreesOn}
+use Rattle.gl_tracked.specs.Step.{tracked_after, number_asked, reads_of}
+use Rattle.gl_tracked.proofs.Stepping.{tracked_after-asked, number_asked-unanswered}
+use Rattle.gl_tracked.proofs.Agreeing.{tracked_after-agrees}
 use Rattle.driver_trait.specs.Driver.{IsDriver, ReadsAlone, Follows, Answers, Replies}
 use Rattle.driver_trait.specs.Recorder.{RecorderView, RecorderSteps, recorded_unless, recorded_after, number_replied, recorder_reply}
 
@@ -18,24 +20,26 @@ module _ (st : RecorderView) (call : Call) where
   unfolding recorded_after
   recorded_after-tracked memory = recorded_unless-tracked (number_asked st.tracked call) memory (tracked_after-asked st.tracked call memory)
 
-  recorded_unless-memory : (asked : Option ℤ) (m n : List Segment) → recorded_unless asked st call m ≡ recorded_unless asked st call n
-  recorded_unless-memory (Some number) m n = refl
-  recorded_unless-memory None m n =
-      let grown : Tracked → RecorderView = λ tracked. record { tracked = tracked; calls = st.calls ++ call ∷ [] } in
-      ap grown (tracked_after-memory st.tracked call m n)
+  module _ (m n : List Segment) (agree : AgreesOn m n (reads_of st.tracked call m)) where
+    recorded_unless-agrees : (asked : Option ℤ) → recorded_unless asked st call m ≡ recorded_unless asked st call n
+    recorded_unless-agrees (Some number) = refl
+    recorded_unless-agrees None =
+        let grown : Tracked → RecorderView = λ tracked. record { tracked = tracked; calls = st.calls ++ call ∷ [] } in
+        ap grown (tracked_after-agrees st.tracked call m n agree)
 
-  recorded_after-memory : (m n : List Segment) → recorded_after st call m ≡ recorded_after st call n
-  unfolding recorded_after
-  recorded_after-memory m n = recorded_unless-memory (number_asked st.tracked call) m n
+    recorded_after-agrees : recorded_after st call m ≡ recorded_after st call n
+    unfolding recorded_after
+    recorded_after-agrees = recorded_unless-agrees (number_asked st.tracked call)
 
   recorded_after-asked : (memory : List Segment) (number : ℤ) → number_asked st.tracked call ≡ Some number → recorded_after st call memory ≡ st
   unfolding recorded_after
   recorded_after-asked memory number asked = ap (λ (o : Option ℤ). recorded_unless o st call memory) asked
 
--- the recorder doesn't look at memory
+-- the recorder looks at memory for names that are deleted alone
 alone : ReadsAlone (λ (st : RecorderView). st.tracked) RecorderSteps
 alone st call m n st2 reply in_range bytes others agree =
-    (λ step. (step.0 ∙ recorded_after-memory st call m n, step.1), λ step. (step.0 ∙ recorded_after-memory st call n m, step.1))
+    let same = recorded_after-agrees st call m n agree in
+    (λ step. (step.0 ∙ same, step.1), λ step. (step.0 ∙ sym same, step.1))
 
 follows : Follows (λ (st : RecorderView). st.tracked) RecorderSteps
 follows st call m st2 reply in_range bytes step = ap (λ (r : RecorderView). r.tracked) (step.0) ∙ recorded_after-tracked st call m

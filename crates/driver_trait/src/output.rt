@@ -11,7 +11,7 @@ use gl_tracked::Tracked;
 use gl_words::{Call, low_bits};
 
 /// Writes what a call replied where the call wants it: numbers as their low 32 bits, four bytes each, the lowest first
-/// (section 6.1); the bytes of ReadPixels row by row (section 4.3.1). What falls outside client memory is dropped. It
+/// (sections 2.9, 3.7.11 and 6.1); the bytes of ReadPixels row by row (section 4.3.1). What falls outside client memory is dropped. It
 /// takes no memory.
 #[tactic(auto, unfolding(crate::specs::Output::memory_after))]
 pub fn write_reply(memory: &mut ClientMemory, tracked: &Tracked, call: &Call, reply: &Reply)
@@ -30,6 +30,9 @@ fn write_numbers(memory: &mut ClientMemory, call: &Call, numbers: &[i64])
     ensures { memory.new ≡ numbers_written (numbers_place call.now) numbers.now memory.old }
 {
     match call {
+        Call::GenBuffers { names, .. } | Call::GenTextures { names, .. } => {
+            write_from(memory, *names, numbers)
+        }
         Call::GetFixedv { params, .. }
         | Call::GetIntegerv { params, .. }
         | Call::GetPointerv { params, .. } => write_from(memory, *params, numbers),

@@ -111,6 +111,14 @@ fn numbers_are_written_where_the_call_wants_them(rt: HostRuntime) -> Result<(), 
         memory.bytes(),
         [9, 9, 9, 9, 9, 9, 9, 9, 9, 9, 9, 9, 1, 2].as_slice()
     );
+    let given = numbers_reply(rt.alloc(), &[1, 4294967295])?;
+    for name in ["GenBuffers", "GenTextures"] {
+        let memory = memory_with(rt.alloc(), name, &[2, 5], &given)?;
+        assert_eq!(rt;
+            memory.bytes(),
+            [9, 9, 9, 9, 9, 1, 0, 0, 0, 255, 255, 255, 255, 9].as_slice()
+        );
+    }
     let pixels = bytes_reply(rt.alloc(), &[1, 2, 3, 4])?;
     let nothing = [
         ("GetIntegerv", [0x0BA2, 14].as_slice(), &viewport),
@@ -118,6 +126,8 @@ fn numbers_are_written_where_the_call_wants_them(rt: HostRuntime) -> Result<(), 
         ("GetIntegerv", [0x0BA2, 0].as_slice(), &pixels),
         ("GetError", [].as_slice(), &pointer),
         ("IsEnabled", [0x0B44].as_slice(), &pointer),
+        ("IsBuffer", [7].as_slice(), &pointer),
+        ("GenBuffers", [2, 14].as_slice(), &given),
         ("GetIntegerv", [0x0BA2, 0].as_slice(), &Reply::Nothing),
     ];
     for (name, numbers, reply) in nothing {

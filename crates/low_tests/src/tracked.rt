@@ -5,6 +5,7 @@ ghost use Rattle.gl_tracked.specs.Tracked.{IsSound};
 use gl_memory::{ClientMemory, Piece};
 use gl_tracked::*;
 use gl_words::{Call, GlError, call_from, number_of_enum, shape_of_name};
+use std::process::Abort;
 use std::test::Fail;
 
 /// The number that a word spells: an integer, or a name of OpenGL ES.
@@ -166,19 +167,88 @@ DrawArrays TRIANGLES 0 65537 : 1281
 DrawArrays TRIANGLES 0 2147483647 : 1281
 LoadMatrixx 4294967295 : none
 MultMatrixx 4294967295 : none
+BindBuffer ARRAY_BUFFER 5 : none
+BindBuffer ELEMENT_ARRAY_BUFFER 4294967295 : none
+BindBuffer 34961 5 : 1280
+BindBuffer 34964 0 : 1280
+BindBuffer TEXTURE_2D 5 : 1280
+BindTexture TEXTURE_2D 5 : none
+BindTexture TEXTURE_2D 0 : none
+BindTexture 3552 5 : 1280
+BindTexture ARRAY_BUFFER 5 : 1280
+BufferData ARRAY_BUFFER 4 0 STATIC_DRAW : 1282
+BufferData ELEMENT_ARRAY_BUFFER 67108865 0 DYNAMIC_DRAW : 1282
+BufferData ARRAY_BUFFER -1 0 STATIC_DRAW : 1281
+BufferData ARRAY_BUFFER -1 0 35045 : 1280
+BufferData 34961 -1 0 35045 : 1280
+BufferSubData ARRAY_BUFFER 0 4 0 : 1282
+BufferSubData ELEMENT_ARRAY_BUFFER -1 67108865 0 : 1281
+BufferSubData ARRAY_BUFFER 0 -1 0 : 1281
+BufferSubData 34964 -1 -1 0 : 1280
+DeleteBuffers 0 0 : none
+DeleteBuffers 256 0 : none
+DeleteBuffers 257 0 : 1281
+DeleteBuffers -1 0 : 1281
+DeleteTextures 256 0 : none
+DeleteTextures 257 0 : 1281
+DeleteTextures -2147483648 0 : 1281
+DrawElements POINTS 0 UNSIGNED_BYTE 0 : none
+DrawElements TRIANGLE_FAN 65536 UNSIGNED_SHORT 4294967295 : none
+DrawElements 7 -1 UNSIGNED_BYTE 0 : 1280
+DrawElements TRIANGLES -1 BYTE 0 : 1280
+DrawElements TRIANGLES 3 SHORT 0 : 1280
+DrawElements TRIANGLES 3 FIXED 0 : 1280
+DrawElements TRIANGLES -1 UNSIGNED_SHORT 0 : 1281
+DrawElements TRIANGLES 65537 UNSIGNED_BYTE 0 : 1281
+GenBuffers 0 0 : none
+GenBuffers 256 0 : none
+GenBuffers 257 0 : 1281
+GenBuffers -1 0 : 1281
+GenTextures 256 0 : none
+GenTextures 257 0 : 1281
+GenTextures -1 0 : 1281
+IsBuffer 0 : none
+IsBuffer 4294967295 : none
+IsTexture 7 : none
 ";
 
-// INVALID_ENUM is 1280, INVALID_VALUE 1281, STACK_UNDERFLOW 1284. The bits of depth, stencil and colour are 256, 1024 and
-// 16384.
-#[test]
-fn each_error_is_found(rt: HostRuntime) {
-    for line in ERRORS.lines() {
+/// The same, with a buffer bound to ARRAY_BUFFER.
+const BOUND_ERRORS: &str = "\
+BufferData ARRAY_BUFFER 0 0 STATIC_DRAW : none
+BufferData ARRAY_BUFFER 67108864 0 DYNAMIC_DRAW : none
+BufferData ARRAY_BUFFER 67108865 0 STATIC_DRAW : 1285
+BufferData ARRAY_BUFFER 2147483647 0 STATIC_DRAW : 1285
+BufferData ARRAY_BUFFER -1 0 STATIC_DRAW : 1281
+BufferData ELEMENT_ARRAY_BUFFER 67108865 0 STATIC_DRAW : 1282
+BufferSubData ARRAY_BUFFER 0 0 0 : none
+BufferSubData ARRAY_BUFFER 0 67108865 0 : 1281
+BufferSubData ARRAY_BUFFER -1 67108865 0 : 1281
+BufferSubData ELEMENT_ARRAY_BUFFER 0 67108865 0 : 1282
+";
+
+/// Each of these calls has its error on this tracked state.
+fn errors_are_found(rt: &impl Abort, tracked: &Tracked, table: &str) {
+    for line in table.lines() {
         let found = line.split_once(" : ").and_then(|(spelling, error)| {
-            let fault = Tracked::first().fault(&call_spelled(spelling)?);
+            let fault = tracked.fault(&call_spelled(spelling)?);
             Some(fault.map(|fault| i64::from(fault.code())) == number(error))
         });
         assert_eq!(rt; found, Some(true));
     }
+}
+
+// INVALID_ENUM is 1280, INVALID_VALUE 1281, INVALID_OPERATION 1282, STACK_UNDERFLOW 1284, OUT_OF_MEMORY 1285. The bits of
+// depth, stencil and colour are 256, 1024 and 16384.
+#[test]
+fn each_error_is_found(rt: HostRuntime) {
+    errors_are_found(&rt, &Tracked::first(), ERRORS);
+}
+
+#[test]
+fn each_error_beside_a_bound_buffer_is_found(rt: HostRuntime) {
+    let mut tracked = Tracked::first();
+    tracked.array_buffer = 5;
+    errors_are_found(&rt, &tracked, BOUND_ERRORS);
 }
 
 /// Takes the step of a call.
@@ -199,7 +269,7 @@ fn number_found(finding: &Finding) -> Option<i64> {
 
 /// Calls one after another, and what another program answers to those that ask for tracked state. Before any call that
 /// sets something it is what tables 6.5 to 6.18 have, with FIXED in the place of floats. Some calls have an error, and set
-/// nothing.
+/// nothing. The names that are deleted lie in the last 16 bytes of memory: 5, 7, 6 and 4294967295.
 const ANSWERS: &str = "\
 Clear 1 : none
 GetIntegerv ACTIVE_TEXTURE 0 : TEXTURE0
@@ -266,11 +336,66 @@ GetIntegerv MODELVIEW_STACK_DEPTH 0 : 1
 GetIntegerv PROJECTION_STACK_DEPTH 0 : 1
 MatrixMode 5891 : none
 GetIntegerv MATRIX_MODE 0 : TEXTURE
+BindBuffer ARRAY_BUFFER 5 : none
+BindBuffer ELEMENT_ARRAY_BUFFER 7 : none
+BindBuffer 34961 9 : none
+BindTexture TEXTURE_2D 9 : none
+GetIntegerv ARRAY_BUFFER_BINDING 0 : 5
+GetIntegerv ELEMENT_ARRAY_BUFFER_BINDING 0 : 7
+GetIntegerv VERTEX_ARRAY_BUFFER_BINDING 0 : 0
+VertexPointer 2 BYTE 0 4 : none
+TexCoordPointer 2 BYTE 0 0 : none
+BindBuffer ARRAY_BUFFER 6 : none
+NormalPointer BYTE 0 0 : none
+ColorPointer 4 FIXED 0 0 : none
+ClientActiveTexture TEXTURE1 : none
+TexCoordPointer 2 BYTE 0 0 : none
+GetIntegerv TEXTURE_COORD_ARRAY_BUFFER_BINDING 0 : 6
+GetIntegerv VERTEX_ARRAY_BUFFER_BINDING 0 : 5
+GetIntegerv NORMAL_ARRAY_BUFFER_BINDING 0 : 6
+GetIntegerv COLOR_ARRAY_BUFFER_BINDING 0 : 6
+DeleteBuffers 257 16 : none
+DeleteBuffers 0 16 : none
+DeleteTextures 3 16 : none
+GetIntegerv ARRAY_BUFFER_BINDING 0 : 6
+GetIntegerv ELEMENT_ARRAY_BUFFER_BINDING 0 : 7
+DeleteBuffers 2 16 : none
+GetIntegerv ARRAY_BUFFER_BINDING 0 : 6
+GetIntegerv ELEMENT_ARRAY_BUFFER_BINDING 0 : 0
+GetIntegerv VERTEX_ARRAY_BUFFER_BINDING 0 : 0
+GetIntegerv VERTEX_ARRAY_SIZE 0 : 2
+GetPointerv VERTEX_ARRAY_POINTER 0 : 4
+GetIntegerv NORMAL_ARRAY_BUFFER_BINDING 0 : 6
+GetIntegerv COLOR_ARRAY_BUFFER_BINDING 0 : 6
+GetIntegerv TEXTURE_COORD_ARRAY_BUFFER_BINDING 0 : 6
+ClientActiveTexture TEXTURE0 : none
+GetIntegerv TEXTURE_COORD_ARRAY_BUFFER_BINDING 0 : 0
+BindBuffer ELEMENT_ARRAY_BUFFER 6 : none
+DeleteBuffers 1 27 : none
+GetIntegerv ELEMENT_ARRAY_BUFFER_BINDING 0 : 6
+DeleteBuffers 1 24 : none
+GetIntegerv ARRAY_BUFFER_BINDING 0 : 0
+GetIntegerv ELEMENT_ARRAY_BUFFER_BINDING 0 : 0
+GetIntegerv NORMAL_ARRAY_BUFFER_BINDING 0 : 0
+GetIntegerv COLOR_ARRAY_BUFFER_BINDING 0 : 0
+ClientActiveTexture TEXTURE1 : none
+GetIntegerv TEXTURE_COORD_ARRAY_BUFFER_BINDING 0 : 0
+BindBuffer ARRAY_BUFFER 255 : none
+DeleteBuffers 2 31 : none
+GetIntegerv ARRAY_BUFFER_BINDING 0 : 0
+BindBuffer ARRAY_BUFFER 0 : none
+BindBuffer ELEMENT_ARRAY_BUFFER 4294967295 : none
+DeleteBuffers 256 28 : none
+GetIntegerv ELEMENT_ARRAY_BUFFER_BINDING 0 : 0
 ";
 
 #[test]
 fn what_calls_set_is_read_back(rt: HostRuntime) -> Result<(), Fail> {
-    let memory = ClientMemory::new(rt.alloc(), 0)?;
+    let mut memory = ClientMemory::new(rt.alloc(), 32)?;
+    memory.write(
+        16,
+        &[5, 0, 0, 0, 7, 0, 0, 0, 6, 0, 0, 0, 255, 255, 255, 255],
+    );
     let mut tracked = Tracked::first();
     for line in ANSWERS.lines() {
         let Some((spelling, answer)) = line.split_once(" : ") else {
@@ -361,4 +486,83 @@ fn an_element_lies_some_steps_behind_the_pointer(rt: HostRuntime) -> Result<(), 
         assert_eq!(rt; tracked.vertex.element(place), Piece { start, len });
     }
     Ok(())
+}
+
+// Worked by hand: UNSIGNED_BYTE is 0x1401, of one byte, and UNSIGNED_SHORT 0x1403, of two, the lowest first. Behind the end of
+// memory there are zeros.
+#[test]
+fn indices_and_names_are_read_one_behind_another(rt: HostRuntime) -> Result<(), Fail> {
+    let mut memory = ClientMemory::new(rt.alloc(), 9)?;
+    memory.write(0, &[1, 2, 3, 4, 5, 6, 7, 8, 9]);
+    let indices = [
+        (0x1401, 1, 0, 2),
+        (0x1401, 3, 4, 8),
+        (0x1401, 9, 0, 0),
+        (0x1403, 1, 0, 0x0302),
+        (0x1403, 1, 1, 0x0504),
+        (0x1403, 0, 4, 9),
+        (0x1400, 1, 0, 0),
+    ];
+    for (kind, place, number, index) in indices {
+        assert_eq!(rt; index_numbered(&memory, kind, place, number), index);
+    }
+    assert_eq!(rt; (index_bytes(0x1401), index_bytes(0x1403)), (1, 2));
+    let names = [
+        (1, 0, 0x0504_0302),
+        (1, 1, 0x0908_0706),
+        (0, 2, 9),
+        (4294967295, 0, 0),
+    ];
+    for (place, number, name) in names {
+        assert_eq!(rt; name_at(&memory, place, number), name);
+    }
+    Ok(())
+}
+
+// The edges of what a draw may draw and a call may name.
+#[test]
+fn counts_with_an_error_are_none(rt: HostRuntime) {
+    let drawn = [(-1, 0), (0, 0), (65536, 65536), (65537, 0)];
+    for (count, drawn) in drawn {
+        assert_eq!(rt; count_drawn(count), drawn);
+    }
+    assert_eq!(rt; (count_of(-1), count_of(2147483647)), (0, 2147483647));
+    assert_eq!(rt; (binding_after(5, 5), binding_after(5, 6)), (0, 6));
+}
+
+// A draw by indices in a buffer may read all of client memory where an array that it reads lies there.
+#[test]
+fn a_draw_by_indices_reads_all_beside_indices_in_a_buffer(rt: HostRuntime) {
+    let draw = Call::DrawElements {
+        mode: 4,
+        count: 1,
+        kind: 0x1401,
+        indices: 0,
+    };
+    let nothing = Call::DrawElements {
+        mode: 4,
+        count: 0,
+        kind: 0x1401,
+        indices: 0,
+    };
+    let rows = [
+        (true, 0, false, 7, true, false),
+        (true, 9, false, 7, false, false),
+        (true, 9, true, 7, true, false),
+        (false, 0, true, 7, false, false),
+        (true, 0, true, 0, false, true),
+        (false, 0, true, 0, false, false),
+    ];
+    for (vertices, buffer, normals, elements, all, takes) in rows {
+        let mut tracked = Tracked::first();
+        tracked.vertex.enabled = vertices;
+        tracked.vertex.buffer = buffer;
+        tracked.normal.enabled = normals;
+        tracked.element_buffer = elements;
+        assert_eq!(rt; tracked.reads_all(&draw), all);
+        assert!(rt; !tracked.reads_all(&nothing));
+        assert_eq!(rt; tracked.takes_indices(), takes);
+        assert_eq!(rt; tracked.normal.is_client(), normals);
+        assert_eq!(rt; tracked.bound_buffer(0x8893), elements);
+    }
 }
