@@ -1,5 +1,5 @@
--- Each element that is drawn lies between the ends of its array's span, so what is left of the spans in memory covers what is read.
-use Rattle.std.proofs.Common.{◌≡◌, ℕ, ◌+◌, ◌*◌, ◌<◌, ◌≤◌, List, [], ◌∷◌, ◌++◌, map, refl, sym, subst, arith}
+-- Each element that is drawn lies between the ends of its array's span, so what is left of the spans in memory covers what is read; and so does what is left of a range of bytes.
+use Rattle.std.proofs.Common.{◌≡◌, ℕ, ◌+◌, ◌*◌, ◌<◌, ◌≤◌, Bool, true, false, cond, eqb, List, [], ◌∷◌, ◌++◌, map, refl, sym, subst, arith}
 use Rattle.std.specs.Prelude.{ℤ, ◌-◌, min, max, All}
 use Rattle.std.specs.List.{flat_map}
 use Rattle.std.proofs.Math.Nat.{mul-le-mul_right}
@@ -11,8 +11,10 @@ use Rattle.gl_tracked.specs.declared.tracked.ArrayState.{ArrayState}
 use Rattle.gl_tracked.specs.declared.tracked.Tracked.{Tracked}
 use Rattle.gl_tracked.specs.Element.{element_at, element_bytes, step_over}
 use Rattle.array_capture.specs.Law.{Cover, LiesInOne, Serve}
-use Rattle.array_capture.specs.Pieces.{greatest_of, least_of, memory_end, part_before, parts_in, pieces_at, pieces_between, pieces_of_draw, pieces_of_matrix, span_of}
-use Rattle.gl_tracked.specs.Ranges.{arrays_read, places_drawn, range_of_matrix, ranges_at, ranges_of_draw}
+use Rattle.array_capture.specs.Pieces.{greatest_of, least_of, memory_end, part_before, parts_in, pieces_at, pieces_between, pieces_of_bytes, pieces_of_data, pieces_of_draw, pieces_of_elements, pieces_of_matrix, pieces_of_names, span_of}
+use Rattle.gl_tracked.specs.Count.{count_drawn}
+use Rattle.gl_tracked.specs.Indices.{indices_at}
+use Rattle.gl_tracked.specs.Ranges.{arrays_read, places_drawn, range_of_bytes, range_of_indices, range_of_matrix, range_of_names, ranges_at, ranges_of_data, ranges_of_draw, ranges_of_elements, takes_indices}
 use Rattle.array_capture.proofs.Parts.{cover-serve, lies_in_part, lies_left, lies_right}
 
 -- a place of an array is one from the least to the greatest
@@ -101,12 +103,55 @@ pub pieces_of_draw-serve : (tracked : Tracked) (first count : ℤ) (memory : Lis
 unfolding pieces_of_draw ranges_of_draw
 pieces_of_draw-serve tracked first count memory = cover-serve _ memory _ (pieces_at-cover tracked (places_drawn first count) memory)
 
--- the pieces for a matrix serve for it
-pub pieces_of_matrix-serve : (pointer : ℕ) (memory : List Segment) → Serve (pieces_of_matrix pointer memory) memory (range_of_matrix pointer ∷ [])
-unfolding pieces_of_matrix parts_in
-pieces_of_matrix-serve pointer memory =
+-- what is left of one range covers it
+range-cover : (range : Piece) (memory : List Segment) → Cover (parts_in memory (range ∷ [])) memory (range ∷ [])
+unfolding parts_in
+range-cover range memory =
     let end = memory_end memory in
-    let range = range_of_matrix pointer in
     let part = part_before end range in
+    All-cons (IsHeld end (part ++ [])) range [] (λ place lies within. lies_left place part [] (lies_in_part end place range lies within)) (All-nil (IsHeld end (part ++ [])))
+
+-- the pieces for a matrix, for bytes and for names serve for them
+pub pieces_of_matrix-serve : (pointer : ℕ) (memory : List Segment) → Serve (pieces_of_matrix pointer memory) memory (range_of_matrix pointer ∷ [])
+unfolding pieces_of_matrix
+pieces_of_matrix-serve pointer memory = cover-serve _ memory _ (range-cover (range_of_matrix pointer) memory)
+
+pub pieces_of_bytes-serve : (place : ℕ) (size : ℤ) (memory : List Segment) → Serve (pieces_of_bytes place size memory) memory (range_of_bytes place size ∷ [])
+unfolding pieces_of_bytes
+pieces_of_bytes-serve place size memory = cover-serve _ memory _ (range-cover (range_of_bytes place size) memory)
+
+pub pieces_of_names-serve : (place : ℕ) (count : ℤ) (memory : List Segment) → Serve (pieces_of_names place count memory) memory (range_of_names place count ∷ [])
+unfolding pieces_of_names
+pieces_of_names-serve place count memory = cover-serve _ memory _ (range-cover (range_of_names place count) memory)
+
+-- what is left of a range, or of none, covers it
+range_unless-cover : (none : Bool) (range : Piece) (memory : List Segment) → Cover (parts_in memory (cond none [] (range ∷ []))) memory (cond none [] (range ∷ []))
+range_unless-cover true range memory = All-nil (IsHeld (memory_end memory) (parts_in memory []))
+range_unless-cover false range memory = range-cover range memory
+
+pub pieces_of_data-serve : (place : ℕ) (size : ℤ) (memory : List Segment) → Serve (pieces_of_data place size memory) memory (ranges_of_data place size)
+unfolding pieces_of_data ranges_of_data
+pieces_of_data-serve place size memory = cover-serve _ memory _ (range_unless-cover (eqb place 0) (range_of_bytes place size) memory)
+
+-- pieces and more pieces cover what each of them covers
+append-cover : (pieces more ranges others : List Piece) (memory : List Segment) → Cover pieces memory ranges → Cover more memory others → Cover (pieces ++ more) memory (ranges ++ others)
+append-cover pieces more ranges others memory first second =
+    let end = memory_end memory in
+    All-append (IsHeld end (pieces ++ more)) ranges others
+    (All-weaker (IsHeld end pieces) (IsHeld end (pieces ++ more)) (λ range held place lies within. lies_left place pieces more (held place lies within)) ranges first)
+    (All-weaker (IsHeld end more) (IsHeld end (pieces ++ more)) (λ range held place lies within. lies_right place pieces more (held place lies within)) others second)
+
+cover_where : (takes : Bool) (pieces ranges : List Piece) (memory : List Segment) → Cover pieces memory ranges → Cover (cond takes pieces []) memory (cond takes ranges [])
+cover_where true pieces ranges memory covers = covers
+cover_where false pieces ranges memory covers = All-nil (IsHeld (memory_end memory) [])
+
+-- the pieces for a draw by indices serve for what it reads, the indices too
+pub pieces_of_elements-serve : (tracked : Tracked) (count : ℤ) (kind place : ℕ) (memory : List Segment)
+    → Serve (pieces_of_elements tracked count kind place memory) memory (ranges_of_elements tracked count kind place memory)
+unfolding pieces_of_elements ranges_of_elements
+pieces_of_elements-serve tracked count kind place memory =
+    let places = indices_at memory kind place (count_drawn count) in
+    let range = range_of_indices kind place (count_drawn count) in
     cover-serve _ memory _
-    (All-cons (IsHeld end (part ++ [])) range [] (λ place lies within. lies_left place part [] (lies_in_part end place range lies within)) (All-nil (IsHeld end (part ++ []))))
+    (cover_where (takes_indices tracked) (pieces_at tracked places memory ++ parts_in memory (range ∷ [])) (ranges_at tracked places ++ range ∷ []) memory
+    (append-cover (pieces_at tracked places memory) (parts_in memory (range ∷ [])) (ranges_at tracked places) (range ∷ []) memory (pieces_at-cover tracked places memory) (range-cover range memory)))

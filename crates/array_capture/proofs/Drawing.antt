@@ -12,8 +12,8 @@ use Rattle.gl_memory.specs.Segment.{Segment}
 use Rattle.gl_tracked.specs.declared.tracked.ArrayState.{ArrayState}
 use Rattle.gl_tracked.specs.declared.tracked.Tracked.{Tracked}
 use Rattle.gl_tracked.specs.Element.{arrays_in_order}
-use Rattle.array_capture.specs.Pieces.{greatest_of, least_of, memory_end, part_before, parts_in, pieces_at, pieces_between, pieces_of_draw, pieces_of_matrix, span_of}
-use Rattle.gl_tracked.specs.Ranges.{arrays_read, is_client, places_drawn, range_of_matrix}
+use Rattle.array_capture.specs.Pieces.{greatest_of, least_of, memory_end, part_before, parts_in, pieces_at, pieces_between, pieces_of_draw, span_of}
+use Rattle.gl_tracked.specs.Ranges.{arrays_read, is_client, places_drawn}
 use Rattle.array_capture.proofs.Parts.{memory_end-memory_of}
 
 least_of-range : (place more : ℕ) → least_of place (range_with_len (place + 1) more) ≡ place
@@ -117,13 +117,19 @@ parts_pushed f old pieces new arrays index other within so_far pushed =
     ∙ flat_map_more f old (take index arrays) (get_or arrays index other)
     ∙ ap (λ (some : List ArrayState). old ++ flat_map f some) (sym (take_more arrays index other within))
 
--- the part of a matrix's range in client memory, pushed onto none, is the piece of the matrix
-pub pieces_of_matrix-pushed : (none new : List Piece) (range : Piece) (pointer end : ℕ) (bytes : List ℕ) → none ≡ [] → range ≡ range_of_matrix pointer → end ≡ length bytes
-    → new ≡ none ++ part_before end range → new ≡ pieces_of_matrix pointer (memory_of bytes)
-unfolding pieces_of_matrix parts_in
-pieces_of_matrix-pushed none new range pointer end bytes is_none is_range is_end pushed =
-    pushed
-    ∙ ap (λ (before : List Piece). before ++ part_before end range) is_none
-    ∙ ap (λ (r : Piece). part_before end r) is_range
-    ∙ ap (λ (n : ℕ). part_before n (range_of_matrix pointer)) (is_end ∙ sym (memory_end-memory_of bytes))
-    ∙ sym (append-nil (part_before (memory_end (memory_of bytes)) (range_of_matrix pointer)))
+-- the part of a range in client memory, pushed onto others, is what is left of that range behind them
+pub range_appended : (old new : List Piece) (pushed range : Piece) (end : ℕ) (bytes : List ℕ) → pushed ≡ range → end ≡ length bytes → new ≡ old ++ part_before end pushed
+    → new ≡ old ++ parts_in (memory_of bytes) (range ∷ [])
+unfolding parts_in
+range_appended old new pushed range end bytes is_range is_end is_new =
+    is_new
+    ∙ ap (λ (r : Piece). old ++ part_before end r) is_range
+    ∙ ap (λ (n : ℕ). old ++ part_before n range) (is_end ∙ sym (memory_end-memory_of bytes))
+    ∙ ap (λ (parts : List Piece). old ++ parts) (sym (append-nil (part_before (memory_end (memory_of bytes)) range)))
+
+-- and pushed onto none, that alone
+pub range_pushed : (none new : List Piece) (pushed range : Piece) (end : ℕ) (bytes : List ℕ) → none ≡ [] → pushed ≡ range → end ≡ length bytes → new ≡ none ++ part_before end pushed
+    → new ≡ parts_in (memory_of bytes) (range ∷ [])
+range_pushed none new pushed range end bytes is_none is_range is_end is_new =
+    range_appended none new pushed range end bytes is_range is_end is_new
+    ∙ ap (λ (before : List Piece). before ++ parts_in (memory_of bytes) (range ∷ [])) is_none

@@ -2,3 +2,4 @@ pub mod Parts
 pub mod Covering
 pub mod Bounds
 pub mod Drawing
+pub mod Naming

@@ -1,12 +1,15 @@
--- The pieces of client memory that are captured for a draw and for a matrix, in their order; own. What is read stands in Ranges.antt.
-use Rattle.std.specs.Prelude.{ℕ, ◌+◌, ◌-◌, min, max, nat_lt, ℤ, ◌&&◌, if◌then◌else◌, List, [], ◌∷◌, length, map}
+-- The pieces of client memory that are captured for draws, matrices, names and bytes of buffers, in their order; own. What is read stands in Ranges.antt.
+use Rattle.std.specs.Prelude.{ℕ, ◌+◌, ◌-◌, min, max, nat_lt, ℤ, ◌&&◌, if◌then◌else◌, List, [], ◌∷◌, ◌++◌, length, map, Option, Some, None}
 use Rattle.std.specs.List.{flat_map}
 use Rattle.gl_memory.specs.declared.piece.Piece.{Piece}
 use Rattle.gl_memory.specs.Segment.{Segment}
 use Rattle.gl_tracked.specs.declared.tracked.ArrayState.{ArrayState}
 use Rattle.gl_tracked.specs.declared.tracked.Tracked.{Tracked}
+use Rattle.array_capture.specs.declared.elements.Ends.{Ends}
+use Rattle.gl_tracked.specs.Count.{count_drawn}
 use Rattle.gl_tracked.specs.Element.{element_at}
-use Rattle.gl_tracked.specs.Ranges.{arrays_read, places_drawn, range_of_matrix}
+use Rattle.gl_tracked.specs.Indices.{indices_at}
+use Rattle.gl_tracked.specs.Ranges.{arrays_read, places_drawn, range_of_bytes, range_of_indices, range_of_matrix, range_of_names, ranges_of_data, takes_indices}
 
 -- the least of a place and others; own
 unfoldable pub least_of : ℕ → List ℕ → ℕ
@@ -17,6 +20,11 @@ least_of place (other ∷ others) = min place (least_of other others)
 unfoldable pub greatest_of : ℕ → List ℕ → ℕ
 greatest_of place [] = place
 greatest_of place (other ∷ others) = max place (greatest_of other others)
+
+-- the least and the greatest of some places, where there are any; own
+abbrev pub ends_of : List ℕ → Option Ends
+ends_of [] = None
+ends_of (place ∷ places) = Some (record { least = least_of place places; greatest = greatest_of place places })
 
 -- the range from the start of the element at one place of an array to the end of that at another; own
 unfoldable pub span_of : ArrayState → ℕ → ℕ → Piece
@@ -54,3 +62,22 @@ pieces_of_draw tracked first count memory = pieces_at tracked (places_drawn firs
 -- the pieces for LoadMatrixx and MultMatrixx at a pointer; own
 unfoldable pub pieces_of_matrix : ℕ → List Segment → List Piece
 pieces_of_matrix pointer memory = parts_in memory (range_of_matrix pointer ∷ [])
+
+-- the pieces for DrawElements, by its count, and the type and the place of its indices: those for the elements that they name, and then that for the indices; none where it takes no indices from memory; own
+unfoldable pub pieces_of_elements : Tracked → ℤ → ℕ → ℕ → List Segment → List Piece
+pieces_of_elements tracked count kind place memory =
+    if takes_indices tracked
+    then pieces_at tracked (indices_at memory kind place (count_drawn count)) memory ++ parts_in memory (range_of_indices kind place (count_drawn count) ∷ [])
+    else []
+
+-- the pieces for BufferData: that for so many bytes from a place on, and none from 0; own
+unfoldable pub pieces_of_data : ℕ → ℤ → List Segment → List Piece
+pieces_of_data place size memory = parts_in memory (ranges_of_data place size)
+
+-- the pieces for BufferSubData: that for so many bytes from a place on; own
+unfoldable pub pieces_of_bytes : ℕ → ℤ → List Segment → List Piece
+pieces_of_bytes place size memory = parts_in memory (range_of_bytes place size ∷ [])
+
+-- the pieces for DeleteBuffers and DeleteTextures: that for so many names from a place on; own
+unfoldable pub pieces_of_names : ℕ → ℤ → List Segment → List Piece
+pieces_of_names place count memory = parts_in memory (range_of_names place count ∷ [])

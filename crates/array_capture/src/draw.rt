@@ -38,10 +38,16 @@ fn unsigned(number: i32) -> u32
 }
 
 /// The pieces for the elements from the place `least` to the place `greatest`.
-fn pieces_between(tracked: &Tracked, least: u32, greatest: u32, memory: &ClientMemory) -> Pieces
+pub(crate) fn pieces_between(
+    tracked: &Tracked,
+    least: u32,
+    greatest: u32,
+    memory: &ClientMemory,
+) -> Pieces
     requires sound { IsSound tracked.now }
     requires order { least ≤ greatest }
-    ensures { result ≡ pieces_between tracked.now least greatest (memory_of memory.now) }
+    ensures pieces { result ≡ pieces_between tracked.now least greatest (memory_of memory.now) }
+    ensures few { length result ≤ 5 }
 {
     let mut pieces = Pieces::new();
     if tracked.vertex.enabled {
@@ -80,8 +86,9 @@ fn push_spans(pieces: &mut Pieces, arrays: &[ArrayState], least: u32, greatest: 
     requires arrays { All IsArray arrays.now }
     requires order { least ≤ greatest }
     requires room { length pieces.old + length arrays.now ≤ 8 }
-    ensures { pieces.new ≡ pieces.old ++ flat_map (λ array.
+    ensures spans { pieces.new ≡ pieces.old ++ flat_map (λ array.
         if is_client array then part_before end (span_of array least greatest) else []) arrays.now }
+    ensures few { length pieces.new ≤ length pieces.old + length arrays.now }
 {
     for array in arrays {
         push_span(pieces, array, least, greatest, end);

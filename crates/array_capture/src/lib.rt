@@ -1,10 +1,14 @@
-//! The pieces of client memory that draws and matrices read. Nothing here takes memory.
+//! The pieces of client memory that draws, matrices, uploads and deletions read. Nothing here takes memory.
 #![tactic(auto)]
 
+mod bytes;
 mod draw;
+mod elements;
 pub mod laws;
 mod matrix;
 mod part;
 
+pub use bytes::{pieces_of_bytes, pieces_of_data, pieces_of_names};
 pub use draw::pieces_of_draw;
+pub use elements::pieces_of_elements;
 pub use matrix::pieces_of_matrix;

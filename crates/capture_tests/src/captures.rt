@@ -1,12 +1,13 @@
-//! Pieces for draws and for matrices, at values of another program, and each law once.
+//! Pieces for draws, matrices, uploads and deletions, at values of another program, and each law once.
 
 ghost use Rattle.gl_tracked.specs.Tracked.{IsSound};
 
-use array_capture::laws::{draw_law, matrix_law};
+use array_capture::laws::{bytes_law, draw_law, elements_law, matrix_law, names_law};
 use array_capture::*;
 use gl_memory::{ClientMemory, Pieces};
 use gl_tracked::Tracked;
 use gl_words::Call;
+use std::alloc::{AllocError as NoMemory, Global};
 use std::process::Abort;
 use std::test::Fail;
 
@@ -23,6 +24,8 @@ const BYTE: u32 = 0x1400;
 const UNSIGNED_BYTE: u32 = 0x1401;
 
 const SHORT: u32 = 0x1402;
+
+const UNSIGNED_SHORT: u32 = 0x1403;
 
 const FIXED: u32 = 0x140C;
 
@@ -203,6 +206,157 @@ fn a_matrix_has_a_piece_that_ends_with_memory(rt: HostRuntime) -> Result<(), Fai
     ];
     for (pointer, expected) in rows {
         same(&rt, &pieces_of_matrix(pointer, &memory), expected);
+    }
+    Ok(())
+}
+
+/// Draws of `count` elements by indices of a type at a place have the pieces of these starts and lengths.
+fn draws_elements(
+    rt: &impl Abort,
+    tracked: &Tracked,
+    memory: &ClientMemory,
+    rows: &[(i32, u32, u32, &[(u64, u64)])],
+)
+    requires sound { IsSound tracked.now }
+{
+    elements_law(tracked, memory);
+    for (count, kind, indices, expected) in rows {
+        same(
+            rt,
+            &pieces_of_elements(tracked, *count, *kind, *indices, memory),
+            expected,
+        );
+    }
+}
+
+/// The same memory for all draws by indices: 200 bytes, of which those from 150 on are 4, 2, 3, 2 and 4.
+fn with_indices(alloc: Global) -> Result<ClientMemory, NoMemory> {
+    let mut memory = ClientMemory::new(alloc, 200)?;
+    memory.write(150, &[4, 2, 3, 2, 4]);
+    Ok(memory)
+}
+
+// By another program. The first four indices are 4, 2, 3 and 2, so that the elements from 2 to 4 are captured; as two numbers of
+// UNSIGNED_SHORT they name elements past memory. Indices past the end of memory are 0.
+#[test]
+fn a_draw_by_indices_has_pieces_from_the_least_to_the_greatest(
+    rt: HostRuntime,
+) -> Result<(), Fail> {
+    let memory = with_indices(rt.alloc())?;
+    let tracked = with_all_arrays(&memory);
+    let rows: [(i32, u32, u32, &[(u64, u64)]); 10] = [
+        (
+            4,
+            UNSIGNED_BYTE,
+            150,
+            &[(24, 36), (114, 20), (198, 2), (30, 13), (18, 12), (150, 4)],
+        ),
+        (
+            1,
+            UNSIGNED_BYTE,
+            151,
+            &[(24, 12), (114, 6), (198, 2), (30, 3), (18, 4), (151, 1)],
+        ),
+        (
+            2,
+            UNSIGNED_BYTE,
+            153,
+            &[(24, 36), (114, 20), (198, 2), (30, 13), (18, 12), (153, 2)],
+        ),
+        (2, UNSIGNED_SHORT, 150, &[(150, 4)]),
+        (
+            2,
+            UNSIGNED_SHORT,
+            199,
+            &[(0, 12), (100, 6), (190, 4), (20, 3), (10, 4), (199, 1)],
+        ),
+        (
+            3,
+            UNSIGNED_BYTE,
+            4294967295,
+            &[(0, 12), (100, 6), (190, 4), (20, 3), (10, 4)],
+        ),
+        (
+            65536,
+            UNSIGNED_SHORT,
+            0,
+            &[
+                (0, 200),
+                (100, 100),
+                (190, 10),
+                (20, 180),
+                (10, 190),
+                (0, 200),
+            ],
+        ),
+        (0, UNSIGNED_BYTE, 150, &[]),
+        (-1, UNSIGNED_BYTE, 150, &[]),
+        (65537, UNSIGNED_BYTE, 150, &[]),
+    ];
+    draws_elements(&rt, &tracked, &memory, rows.as_slice());
+    Ok(())
+}
+
+// By another program, where the array of vertices is disabled. Where the indices lie in a buffer the draw waits, and nothing is
+// captured for it.
+#[test]
+fn a_draw_by_indices_that_takes_none_has_no_piece(rt: HostRuntime) -> Result<(), Fail> {
+    let memory = with_indices(rt.alloc())?;
+    let mut tracked = with_all_arrays(&memory);
+    let disabled = [Call::DisableClientState { array: VERTICES }];
+    let bound = [
+        Call::EnableClientState { array: VERTICES },
+        Call::BindBuffer {
+            target: 0x8893,
+            buffer: 7,
+        },
+    ];
+    let none = [(4, UNSIGNED_BYTE, 150, [].as_slice())];
+    take(&mut tracked, disabled.as_slice(), &memory);
+    draws_elements(&rt, &tracked, &memory, none.as_slice());
+    take(&mut tracked, bound.as_slice(), &memory);
+    draws_elements(&rt, &tracked, &memory, none.as_slice());
+    Ok(())
+}
+
+// By another program. BufferData of bytes at 0 stands for zeros, and BufferSubData has no such place.
+#[test]
+fn bytes_have_a_piece_that_ends_with_memory(rt: HostRuntime) -> Result<(), Fail> {
+    let memory = ClientMemory::new(rt.alloc(), 200)?;
+    bytes_law(&memory);
+    let rows: [(u32, i32, &[(u64, u64)]); 7] = [
+        (100, 50, &[(100, 50)]),
+        (137, 64, &[(137, 63)]),
+        (199, 7, &[(199, 1)]),
+        (100, 0, &[]),
+        (200, 5, &[]),
+        (4294967295, 5, &[]),
+        (10, -1, &[]),
+    ];
+    for (place, size, expected) in rows {
+        same(&rt, &pieces_of_data(place, size, &memory), expected);
+        same(&rt, &pieces_of_bytes(place, size, &memory), expected);
+    }
+    same(&rt, &pieces_of_data(0, 50, &memory), &[]);
+    same(&rt, &pieces_of_bytes(0, 50, &memory), &[(0, 50)]);
+    Ok(())
+}
+
+// By another program.
+#[test]
+fn names_have_a_piece_of_four_bytes_each(rt: HostRuntime) -> Result<(), Fail> {
+    let memory = ClientMemory::new(rt.alloc(), 200)?;
+    names_law(&memory);
+    let rows: [(u32, i32, &[(u64, u64)]); 6] = [
+        (100, 2, &[(100, 8)]),
+        (190, 3, &[(190, 10)]),
+        (0, 256, &[(0, 200)]),
+        (10, 0, &[]),
+        (200, 1, &[]),
+        (10, -1, &[]),
+    ];
+    for (names, count, expected) in rows {
+        same(&rt, &pieces_of_names(names, count, &memory), expected);
     }
     Ok(())
 }

@@ -30,5 +30,5 @@ returns c =
     let at : c.args.first ≡ pos least = sym (to_z-of_z w32 c.args.first c.ranges.first) ∙ sym c.unsigned-least.ensures in
     let number : c.args.count ≡ pos (suc more) = omega (arith, ints, c.unsigned.ensures) in
     let few : more < 65536 = omega (arith, ints, c.unsigned.ensures, c.if-count-gt-MOST.false) in
-    c.pieces_between.ensures
+    c.pieces_between.ensures.pieces
     ∙ sym (pieces_of_draw-some c.args.tracked.now c.args.first c.args.count least more (memory_of c.args.memory.now) at number few)

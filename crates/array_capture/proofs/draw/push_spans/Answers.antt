@@ -17,8 +17,8 @@ loop-array-preserved c =
       few = omega (arith, c.push_span.ensures.few, c.loop-array.invariant.few);
     }
 
-pub returns : goal.returns
-returns c =
+pub returns-clause-spans : goal.returns-clause-spans
+returns-clause-spans c =
     c.loop-array.invariant.so_far
     ∙ ap (λ (arrays : List ArrayState). c.args.pieces.now ++ flat_map (part_of_array c.args.end c.args.least c.args.greatest) arrays)
     (take_all c.loop-array.array-index c.args.arrays.now (omega arith))
