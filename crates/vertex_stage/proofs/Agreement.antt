@@ -1,8 +1,8 @@
--- A vertex is the same on two memories that have the same bytes where its elements lie.
-use Rattle.std.proofs.Common.{◌≡◌, ℕ, suc, ◌+◌, ◌*◌, ◌<◌, ◌≤◌, ℤ, pos, Bool, true, false, eqb, if◌then◌else◌, List, [], refl, ap, arith}
+-- A vertex is the same on memories that have the same bytes where its elements lie.
+use Rattle.std.proofs.Common.{◌≡◌, ℕ, suc, ◌+◌, ◌*◌, ◌<◌, ◌≤◌, ℤ, pos, Bool, true, false, eqb, if◌then◌else◌, List, refl, ap, arith}
 use Rattle.std.specs.Prelude.{nat_lt}
 use Rattle.std.specs.Int.{cast_signed, w8, w16, w32}
-use Rattle.std.proofs.lemmas.Bool.{eqb-true, ltb-true}
+use Rattle.std.proofs.lemmas.Bool.{ltb-true}
 use Rattle.std.proofs.lemmas.Nat.{mul-le}
 use Rattle.gl_memory.specs.Number.{u16_at, u32_at, i32_at}
 use Rattle.gl_memory.specs.Piece.{LiesIn}
@@ -13,7 +13,7 @@ use Rattle.gl_tracked.specs.Element.{element_at, element_bytes, number_bytes, nu
 use Rattle.vertex_stage.specs.declared.stage.Stage.{Stage}
 use Rattle.vertex_stage.specs.declared.stage.Texturing.{Texturing}
 use Rattle.vertex_stage.specs.Vertex.{AgreeAt, AgreeIn, AgreeOn, CornersAgree, clip_position, colour_of, coordinates_of, corners_of, values_of, vertex_of}
-use Rattle.vertex_stage.specs.Number.{element_part, element_parts, fixed_of, given_or, integer_at, memory_of_array, missing}
+use Rattle.vertex_stage.specs.Number.{element_part, element_parts, fixed_of, given_or, integer_at, missing}
 
 module _ (m n : List Segment) where
   -- the same bytes, so many from a place on
@@ -90,20 +90,11 @@ module _ (m n : List Segment) where
     pub part_in-same : (part : ℕ) → part_in m part (nat_lt part (number_count array.size)) ≡ part_in n part (nat_lt part (number_count array.size))
     part_in-same part = part_by part (nat_lt part (number_count array.size)) (λ is. number_within part (ltb-true part (number_count array.size) is))
 
--- in the memories in which an array lies there are the same bytes, if there are in client memory where it lies there
-same_by : (b : Bool) (m n : List Segment) (piece : Piece) → (b ≡ true → SameIn m n piece) → SameIn (if b then m else []) (if b then n else []) piece
-same_by true m n piece same = same refl
-same_by false m n piece same = λ at lies. refl
-
-module _ (m n : List Segment) where
+module _ (m n : ℕ → List Segment) where
   module _ (array : ArrayState) (place : ℕ) (agree : AgreeOn m n array place) where
-    same_in_own : SameIn (memory_of_array array m) (memory_of_array array n) (element_at array place)
-    unfolding memory_of_array
-    same_in_own = same_by (eqb array.buffer 0) m n (element_at array place) (λ is. agree (eqb-true array.buffer 0 is))
-
     part-same : (part : ℕ) → element_part array m place part ≡ element_part array n place part
     unfolding element_part
-    part-same part = part_in-same (memory_of_array array m) (memory_of_array array n) array place same_in_own part
+    part-same part = part_in-same (m array.buffer) (n array.buffer) array place agree part
 
     pub element_parts-same : element_parts array m place ≡ element_parts array n place
     unfolding element_parts

@@ -1,5 +1,6 @@
 -- The numbers of an element of an array, as fixed numbers; sections 2.7 and 2.8. They are told of every state: of a type that there isn't no byte is read.
-use Rattle.std.specs.Prelude.{ℕ, ◌+◌, ◌*◌, ◌==◌, nat_lt, ℤ, pos, ◌*ℤ◌, if◌then◌else◌, List, [], ◌∷◌}
+-- Arrays lie in memories, one for each number of a buffer: for 0, which is that of no buffer, in client memory; section 2.9.
+use Rattle.std.specs.Prelude.{ℕ, ◌+◌, ◌*◌, ◌==◌, nat_lt, ℤ, pos, ◌*ℤ◌, if◌then◌else◌, List, ◌∷◌, []}
 use Rattle.std.specs.Int.{cast_signed, int_div_euclid, w8, w16}
 use Rattle.gl_memory.specs.Segment.{Segment, byte_at}
 use Rattle.gl_memory.specs.Number.{u16_at, i32_at}
@@ -24,22 +25,22 @@ fixed_of kind integer =
 abbrev pub missing : ℕ → ℤ
 missing part = if part == 3 then pos 65536 else pos 0
 
--- the memory in which an array lies: client memory, or where it lies in a buffer none, since there are no buffers yet; sections 2.8 and 2.9
-unfoldable pub memory_of_array : ArrayState → List Segment → List Segment
-memory_of_array array memory = if array.buffer == 0 then memory else []
-
--- a part of the element at a place of an array, counted from 0: its number, or what stands for a missing one; sections 2.7 and 2.8
-unfoldable pub element_part : ArrayState → List Segment → ℕ → ℕ → ℤ
-element_part array memory place part =
+-- a part of the element at a place of an array, counted from 0: its number in the memory of its buffer, or what stands for a missing one; sections 2.7, 2.8 and 2.9
+unfoldable pub element_part : ArrayState → (ℕ → List Segment) → ℕ → ℕ → ℤ
+element_part array memories place part =
     if nat_lt part (number_count array.size)
-    then fixed_of array.kind (integer_at array.kind (memory_of_array array memory) ((element_at array place).start + part * number_bytes array.kind))
+    then fixed_of array.kind (integer_at array.kind (memories array.buffer) ((element_at array place).start + part * number_bytes array.kind))
     else missing part
 
 -- the four parts of the element at a place of an array; sections 2.7 and 2.8
-unfoldable pub element_parts : ArrayState → List Segment → ℕ → List ℤ
-element_parts array memory place =
-    element_part array memory place 0 ∷ element_part array memory place 1 ∷ element_part array memory place 2 ∷ element_part array memory place 3 ∷ []
+unfoldable pub element_parts : ArrayState → (ℕ → List Segment) → ℕ → List ℤ
+element_parts array memories place =
+    element_part array memories place 0 ∷ element_part array memories place 1 ∷ element_part array memories place 2 ∷ element_part array memories place 3 ∷ []
 
 -- the four parts that a vertex takes of an array: those of its element where the array is enabled, else the current value; section 2.8
-unfoldable pub given_or : ArrayState → List ℤ → List Segment → ℕ → List ℤ
-given_or array current memory place = if array.enabled then element_parts array memory place else current
+unfoldable pub given_or : ArrayState → List ℤ → (ℕ → List Segment) → ℕ → List ℤ
+given_or array current memories place = if array.enabled then element_parts array memories place else current
+
+-- memories by the numbers of buffers, of this client memory and of these buffers; section 2.9
+abbrev pub memories_with : List Segment → (ℕ → List Segment) → ℕ → List Segment
+memories_with client buffers buffer = if buffer == 0 then client else buffers buffer

@@ -1,4 +1,4 @@
--- The vertex of an element, transformed; sections 2.8, 2.10 and 2.12. Which triangles there are stands in Triangles.antt.
+-- The vertex of an element, transformed; sections 2.8, 2.10 and 2.12. Which triangles there are stands in Triangles.antt, and in which memories arrays lie in Number.antt.
 use Rattle.std.specs.Prelude.{◌≡◌, ℕ, ◌^◌, true, ℤ, pos, neg_ℤ, int_lt, if◌then◌else◌, List, [], ◌∷◌}
 use Rattle.gl_memory.specs.Piece.{LiesIn}
 use Rattle.gl_memory.specs.Segment.{Segment, byte_at}
@@ -28,17 +28,17 @@ abbrev pub each_part : (ℤ → ℤ) → List ℤ → List ℤ
 each_part change parts = change (part parts 0) ∷ change (part parts 1) ∷ change (part parts 2) ∷ change (part parts 3) ∷ []
 
 -- the coordinates of the vertex at a place in clip space: of the model view and then the projection, clamped; section 2.10, the clamp own
-unfoldable pub clip_position : Stage → List Segment → ℕ → List ℤ
-clip_position stage memory place =
-    each_part clamped_coordinate (image stage.projection (image stage.model_view (element_parts stage.vertex memory place)))
+unfoldable pub clip_position : Stage → (ℕ → List Segment) → ℕ → List ℤ
+clip_position stage memories place =
+    each_part clamped_coordinate (image stage.projection (image stage.model_view (element_parts stage.vertex memories place)))
 
 -- red, green, blue and alpha of the vertex at a place, clamped; sections 2.7, 2.8 and 2.12.1
-unfoldable pub colour_of : Stage → List Segment → ℕ → List ℤ
-colour_of stage memory place = each_part clamped_shade (given_or stage.colour stage.current_colour memory place)
+unfoldable pub colour_of : Stage → (ℕ → List Segment) → ℕ → List ℤ
+colour_of stage memories place = each_part clamped_shade (given_or stage.colour stage.current_colour memories place)
 
 -- s, t, r and q of the vertex at a place in one unit, by the unit's matrix and clamped; sections 2.7, 2.8 and 2.10.2, the clamp own
-unfoldable pub coordinates_of : Texturing → List Segment → ℕ → List ℤ
-coordinates_of unit memory place = each_part clamped_coordinate (image unit.matrix (given_or unit.coordinates unit.current memory place))
+unfoldable pub coordinates_of : Texturing → (ℕ → List Segment) → ℕ → List ℤ
+coordinates_of unit memories place = each_part clamped_coordinate (image unit.matrix (given_or unit.coordinates unit.current memories place))
 
 -- a colour, and s, t and q of the coordinates in two units; section 3.7.12, that r has no use own
 abbrev pub ten_values : List ℤ → List ℤ → List ℤ → List ℤ
@@ -47,17 +47,17 @@ ten_values colour first second =
     part first 0 ∷ part first 1 ∷ part first 3 ∷ part second 0 ∷ part second 1 ∷ part second 3 ∷ []
 
 -- the ten values that the vertex at a place carries: its colour, and s, t, q of unit 0 and of unit 1; section 3.5.1
-unfoldable pub values_of : Stage → List Segment → ℕ → List ℤ
-values_of stage memory place =
-    ten_values (colour_of stage memory place) (coordinates_of stage.first_unit memory place) (coordinates_of stage.second_unit memory place)
+unfoldable pub values_of : Stage → (ℕ → List Segment) → ℕ → List ℤ
+values_of stage memories place =
+    ten_values (colour_of stage memories place) (coordinates_of stage.first_unit memories place) (coordinates_of stage.second_unit memories place)
 
 -- the vertex of a clip position and the values that it carries
 abbrev pub vertex_at : List ℤ → List ℤ → Vertex
 vertex_at position values = record { x = part position 0; y = part position 1; z = part position 2; w = part position 3; values = values }
 
 -- the vertex of the elements at a place; sections 2.8, 2.10 and 2.12
-unfoldable pub vertex_of : Stage → List Segment → ℕ → Vertex
-vertex_of stage memory place = vertex_at (clip_position stage memory place) (values_of stage memory place)
+unfoldable pub vertex_of : Stage → (ℕ → List Segment) → ℕ → Vertex
+vertex_of stage memories place = vertex_at (clip_position stage memories place) (values_of stage memories place)
 
 -- ten values: the colour is that of the first ten, and all else that of the second ten
 abbrev pub colour_and_others : List ℤ → List ℤ → List ℤ
@@ -70,12 +70,12 @@ unfoldable pub with_colour_from : Vertex → Vertex → Vertex
 with_colour_from other vertex = record vertex { values = colour_and_others other.values vertex.values }
 
 -- the three corners of a triangle of the elements at three places: where shading is flat, all have the colour of the third; section 2.12.7
-unfoldable pub corners_of : Stage → List Segment → ℕ → ℕ → ℕ → List Vertex
-corners_of stage memory first second third =
-    let last = vertex_of stage memory third in
+unfoldable pub corners_of : Stage → (ℕ → List Segment) → ℕ → ℕ → ℕ → List Vertex
+corners_of stage memories first second third =
+    let last = vertex_of stage memories third in
     if stage.is_smooth
-    then vertex_of stage memory first ∷ vertex_of stage memory second ∷ last ∷ []
-    else with_colour_from last (vertex_of stage memory first) ∷ with_colour_from last (vertex_of stage memory second) ∷ last ∷ []
+    then vertex_of stage memories first ∷ vertex_of stage memories second ∷ last ∷ []
+    else with_colour_from last (vertex_of stage memories first) ∷ with_colour_from last (vertex_of stage memories second) ∷ last ∷ []
 
 -- each array has elements of numbers that there are; own
 pub record HasArrays (stage : Stage) : Type 0 where
@@ -84,22 +84,22 @@ pub record HasArrays (stage : Stage) : Type 0 where
   pub first_unit : IsArray stage.first_unit.coordinates
   pub second_unit : IsArray stage.second_unit.coordinates
 
--- two memories have the same bytes where the element at a place of an array lies, if it lies in client memory; sections 2.8 and 2.9
-abbrev pub AgreeOn : List Segment → List Segment → ArrayState → ℕ → Type 0
-AgreeOn m n array place = array.buffer ≡ 0 → (at : ℕ) → LiesIn at (element_at array place) → byte_at m at ≡ byte_at n at
+-- memories have the same bytes where the element at a place of an array lies; sections 2.8 and 2.9
+abbrev pub AgreeOn : (ℕ → List Segment) → (ℕ → List Segment) → ArrayState → ℕ → Type 0
+AgreeOn m n array place = (at : ℕ) → LiesIn at (element_at array place) → byte_at (m array.buffer) at ≡ byte_at (n array.buffer) at
 
 -- the same, if the array is enabled; section 2.8
-abbrev pub AgreeIn : List Segment → List Segment → ArrayState → ℕ → Type 0
+abbrev pub AgreeIn : (ℕ → List Segment) → (ℕ → List Segment) → ArrayState → ℕ → Type 0
 AgreeIn m n array place = array.enabled ≡ true → AgreeOn m n array place
 
--- two memories have the same bytes where the elements at a place lie in client memory, of the vertices and of each other array that is enabled; sections 2.8 and 2.9
-pub record AgreeAt (stage : Stage) (m n : List Segment) (place : ℕ) : Type 0 where
+-- memories have the same bytes where the elements at a place lie, of the vertices and of each other array that is enabled; sections 2.8 and 2.9
+pub record AgreeAt (stage : Stage) (m n : ℕ → List Segment) (place : ℕ) : Type 0 where
   pub vertex : AgreeOn m n stage.vertex place
   pub colour : AgreeIn m n stage.colour place
   pub first_unit : AgreeIn m n stage.first_unit.coordinates place
   pub second_unit : AgreeIn m n stage.second_unit.coordinates place
 
--- where two memories agree at the three places of a triangle, its corners are the same; own
-abbrev pub CornersAgree : Stage → List Segment → List Segment → ℕ → ℕ → ℕ → Type 0
+-- where memories agree at the three places of a triangle, its corners are the same; own
+abbrev pub CornersAgree : Stage → (ℕ → List Segment) → (ℕ → List Segment) → ℕ → ℕ → ℕ → Type 0
 CornersAgree stage m n first second third =
     AgreeAt stage m n first → AgreeAt stage m n second → AgreeAt stage m n third → corners_of stage m first second third ≡ corners_of stage n first second third

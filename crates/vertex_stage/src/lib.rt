@@ -2,10 +2,12 @@
 #![tactic(auto)]
 
 pub mod laws;
+mod memories;
 mod number;
 mod stage;
 mod triangles;
 mod vertex;
 
+pub use memories::{Memories, Numbered};
 pub use stage::{Stage, Texturing};
 pub use triangles::{Triple, triangle, triangle_count};

@@ -3,8 +3,9 @@
 ghost use Rattle.std.specs.Prelude.{◌≡◌, ◌≤◌, ◌<◌, ◌^◌, ◌+◌, ◌-◌, ◌*◌, nat_lt, if◌then◌else◌};
 ghost use Rattle.gl_tracked.specs.Tracked.{IsArray};
 ghost use Rattle.gl_tracked.specs.Element.{element_at, number_bytes, number_count};
-ghost use Rattle.vertex_stage.specs.Number.{integer_at, fixed_of, memory_of_array, missing, element_part, element_parts, given_or};
+ghost use Rattle.vertex_stage.specs.Number.{integer_at, fixed_of, missing, element_part, element_parts, given_or};
 
+use crate::memories::{Memories, Numbered};
 use gl_memory::{Memory, read_i32, read_u16};
 use gl_tracked::ArrayState;
 
@@ -37,19 +38,13 @@ fn fixed_at<M: Memory>(memory: &M, kind: u32, place: u64) -> i32
     }
 }
 
-/// The number at a place of the memory in which an array lies, as a fixed number: zero where that is a buffer, since there
-/// are no buffers yet.
-#[tactic(auto, using(crate::proofs::Buffers::number_in_buffer), unfolding(crate::specs::Number::memory_of_array))]
-fn number_at<M: Memory>(array: &ArrayState, memory: &M, place: u64) -> i32
+/// The number at a place of the memory in which an array lies, as a fixed number (section 2.9).
+fn number_at<S: Memories>(array: &ArrayState, memories: &S, place: u64) -> i32
     requires place { place < 2 ^ 63 - 4 }
     ensures { result ≡ fixed_of array.now.kind
-        (integer_at array.now.kind (memory_of_array array.now (M.segments memory.now)) place) }
+        (integer_at array.now.kind (S.each memories.now array.now.buffer) place) }
 {
-    if array.buffer == 0 {
-        fixed_at(memory, array.kind, place)
-    } else {
-        0
-    }
+    fixed_at(&Numbered::new(memories, array.buffer), array.kind, place)
 }
 
 /// Where the element at a place begins (section 2.8).
@@ -66,32 +61,32 @@ fn start_of(array: &ArrayState, place: u32) -> u64
 
 /// The four parts of the element at a place; sections 2.7 and 2.8.
 #[tactic(auto, unfolding(crate::specs::Number::element_part, crate::specs::Number::element_parts))]
-pub(crate) fn parts<M: Memory>(array: &ArrayState, memory: &M, place: u32) -> [i32; 4]
+pub(crate) fn parts<S: Memories>(array: &ArrayState, memories: &S, place: u32) -> [i32; 4]
     requires array { IsArray array.now }
     requires near { place < 2 ^ 31 + 2 ^ 16 }
-    ensures { result ≡ element_parts array.now (M.segments memory.now) place }
+    ensures { result ≡ element_parts array.now (S.each memories.now) place }
 {
     let start = start_of(array, place);
     let bytes = number_bytes(array.kind);
     [
-        part(array, memory, start, 0),
-        part(array, memory, start + bytes, 1),
-        part(array, memory, start + 2 * bytes, 2),
-        part(array, memory, start + 3 * bytes, 3),
+        part(array, memories, start, 0),
+        part(array, memories, start + bytes, 1),
+        part(array, memories, start + 2 * bytes, 2),
+        part(array, memories, start + 3 * bytes, 3),
     ]
 }
 
 /// One part of an element, which stands at a place of memory if the element has it; sections 2.7 and 2.8.
-fn part<M: Memory>(array: &ArrayState, memory: &M, place: u64, number: u32) -> i32
+fn part<S: Memories>(array: &ArrayState, memories: &S, place: u64, number: u32) -> i32
     requires place { place < 2 ^ 63 - 4 }
     requires few { number < 4 }
     ensures { result ≡ (if nat_lt number (number_count array.now.size)
         then fixed_of array.now.kind
-        (integer_at array.now.kind (memory_of_array array.now (M.segments memory.now)) place)
+        (integer_at array.now.kind (S.each memories.now array.now.buffer) place)
         else missing number) }
 {
     if array.size > number as i32 {
-        number_at(array, memory, place)
+        number_at(array, memories, place)
     } else if number == 3 {
         65536
     } else {
@@ -101,18 +96,18 @@ fn part<M: Memory>(array: &ArrayState, memory: &M, place: u64, number: u32) -> i
 
 /// The four parts that a vertex takes of an array, or the current value where the array is disabled; section 2.8.
 #[tactic(auto, unfolding(crate::specs::Number::given_or))]
-pub(crate) fn given_or<M: Memory>(
+pub(crate) fn given_or<S: Memories>(
     array: &ArrayState,
     current: [i32; 4],
-    memory: &M,
+    memories: &S,
     place: u32,
 ) -> [i32; 4]
     requires array { IsArray array.now }
     requires near { place < 2 ^ 31 + 2 ^ 16 }
-    ensures { result ≡ given_or array.now current (M.segments memory.now) place }
+    ensures { result ≡ given_or array.now current (S.each memories.now) place }
 {
     if array.enabled {
-        parts(array, memory, place)
+        parts(array, memories, place)
     } else {
         current
     }

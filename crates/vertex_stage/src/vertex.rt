@@ -5,9 +5,9 @@ ghost use Rattle.gl_tracked.specs.Tracked.{IsArray};
 ghost use Rattle.triangle_raster.specs.Vertex.{AreCorners, IsCorner, IsWithin};
 ghost use Rattle.vertex_stage.specs.Vertex.{clamped_coordinate, clamped_shade, clip_position, colour_of, coordinates_of, each_part, vertex_of, with_colour_from, corners_of, HasArrays};
 
+use crate::memories::Memories;
 use crate::number::{given_or, parts};
 use crate::stage::{Stage, Texturing};
-use gl_memory::Memory;
 use triangle_raster::Vertex;
 
 /// The bound of coordinates: 2048 in 16.16 fixed; own.
@@ -91,13 +91,13 @@ fn with_colour_from(other: &Vertex, vertex: Vertex) -> Vertex
 impl Texturing {
     /// s, t, r and q of the vertex at a place, by the unit's matrix and clamped; sections 2.7, 2.8 and 2.10.2, the clamp own.
     #[tactic(auto, unfolding(crate::specs::Vertex::coordinates_of))]
-    fn coordinates<M: Memory>(&self, memory: &M, place: u32) -> [i32; 4]
+    fn coordinates<S: Memories>(&self, memories: &S, place: u32) -> [i32; 4]
         requires array { IsArray self.now.coordinates }
         requires near { place < 2 ^ 31 + 2 ^ 16 }
-        ensures value { result ≡ coordinates_of self.now (M.segments memory.now) place }
+        ensures value { result ≡ coordinates_of self.now (S.each memories.now) place }
         ensures near { All (IsWithin (2 ^ 27)) result }
     {
-        let given = given_or(&self.coordinates, self.current, memory, place);
+        let given = given_or(&self.coordinates, self.current, memories, place);
         clamped(self.matrix.apply(given))
     }
 }
@@ -105,40 +105,40 @@ impl Texturing {
 impl Stage {
     /// The clip coordinates of the vertex at a place; section 2.10, the clamp own.
     #[tactic(auto, unfolding(crate::specs::Vertex::clip_position))]
-    fn position<M: Memory>(&self, memory: &M, place: u32) -> [i32; 4]
+    fn position<S: Memories>(&self, memories: &S, place: u32) -> [i32; 4]
         requires array { IsArray self.now.vertex }
         requires near { place < 2 ^ 31 + 2 ^ 16 }
-        ensures value { result ≡ clip_position self.now (M.segments memory.now) place }
+        ensures value { result ≡ clip_position self.now (S.each memories.now) place }
         ensures near { All (IsWithin (2 ^ 27)) result }
     {
-        let seen = self.model_view.apply(parts(&self.vertex, memory, place));
+        let seen = self.model_view.apply(parts(&self.vertex, memories, place));
         clamped(self.projection.apply(seen))
     }
 
     /// The colour of the vertex at a place, clamped; sections 2.7, 2.8 and 2.12.1.
     #[tactic(auto, unfolding(crate::specs::Vertex::colour_of))]
-    fn colour<M: Memory>(&self, memory: &M, place: u32) -> [i32; 4]
+    fn colour<S: Memories>(&self, memories: &S, place: u32) -> [i32; 4]
         requires array { IsArray self.now.colour }
         requires near { place < 2 ^ 31 + 2 ^ 16 }
-        ensures value { result ≡ colour_of self.now (M.segments memory.now) place }
+        ensures value { result ≡ colour_of self.now (S.each memories.now) place }
         ensures near { All (IsWithin (2 ^ 27)) result }
     {
-        clamped_colour(given_or(&self.colour, self.current_colour, memory, place))
+        clamped_colour(given_or(&self.colour, self.current_colour, memories, place))
     }
 
     /// The vertex of the elements at a place, from 0, transformed (16.16 fixed); sections 2.8, 2.10 and 2.12 of OpenGL ES
     /// 1.1.12.
     #[tactic(auto, unfolding(crate::specs::Vertex::vertex_of, crate::specs::Vertex::values_of))]
-    pub fn vertex<M: Memory>(&self, memory: &M, place: u32) -> Vertex
+    pub fn vertex<S: Memories>(&self, memories: &S, place: u32) -> Vertex
         requires arrays { HasArrays self.now }
         requires near { place < 2 ^ 31 + 2 ^ 16 }
-        ensures value { result ≡ vertex_of self.now (M.segments memory.now) place }
+        ensures value { result ≡ vertex_of self.now (S.each memories.now) place }
         ensures near { IsCorner result }
     {
-        let position = self.position(memory, place);
-        let colour = self.colour(memory, place);
-        let one = self.first_unit.coordinates(memory, place);
-        let two = self.second_unit.coordinates(memory, place);
+        let position = self.position(memories, place);
+        let colour = self.colour(memories, place);
+        let one = self.first_unit.coordinates(memories, place);
+        let two = self.second_unit.coordinates(memories, place);
         Vertex {
             x: position[0],
             y: position[1],
@@ -154,17 +154,23 @@ impl Stage {
     /// The corners of a triangle of the elements at three places: where shading is flat, all have the colour of the third;
     /// section 2.12.7 of OpenGL ES 1.1.12.
     #[tactic(auto, unfolding(crate::specs::Vertex::corners_of))]
-    pub fn corners<M: Memory>(&self, memory: &M, first: u32, second: u32, third: u32) -> [Vertex; 3]
+    pub fn corners<S: Memories>(
+        &self,
+        memories: &S,
+        first: u32,
+        second: u32,
+        third: u32,
+    ) -> [Vertex; 3]
         requires arrays { HasArrays self.now }
         requires first { first < 2 ^ 31 + 2 ^ 16 }
         requires second { second < 2 ^ 31 + 2 ^ 16 }
         requires third { third < 2 ^ 31 + 2 ^ 16 }
-        ensures value { result ≡ corners_of self.now (M.segments memory.now) first second third }
+        ensures value { result ≡ corners_of self.now (S.each memories.now) first second third }
         ensures near { AreCorners result }
     {
-        let one = self.vertex(memory, first);
-        let two = self.vertex(memory, second);
-        let three = self.vertex(memory, third);
+        let one = self.vertex(memories, first);
+        let two = self.vertex(memories, second);
+        let three = self.vertex(memories, third);
         if self.is_smooth {
             [one, two, three]
         } else {

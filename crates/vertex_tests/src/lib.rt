@@ -2,6 +2,8 @@
 #![tactic(auto)]
 
 #[cfg(test)]
+mod stores;
+#[cfg(test)]
 mod triangles;
 #[cfg(test)]
 mod vertices;
