@@ -7,7 +7,7 @@ use Rattle.fragment_ops.specs.declared.cell.Cell.{Cell}
 use Rattle.fragment_ops.specs.declared.place.Place.{Place}
 use Rattle.vertex_stage.specs.declared.triangles.Triple.{Triple}
 use Rattle.vertex_stage.specs.Triangles.{strip_triangle, triangle_at, triangle_count}
-use Rattle.vertex_stage.specs.Vertex.{AgreeAt}
+use Rattle.vertex_stage.specs.Vertex.{AgreeAt, corners_of}
 use Rattle.vertex_stage.proofs.Agreement.{corners_of-same}
 use Rattle.triangle_draw.specs.declared.drawing.Drawing.{Drawing}
 use Rattle.triangle_draw.specs.Draw.{cell_after_draw, cell_after_triangles, corners_at}
@@ -60,30 +60,38 @@ triangle_lies mode count number =
       ]
     ]
 
-module _ (drawing : Drawing) (m n : List Segment) (mode : ℕ) (at : ℕ → ℕ) (count : ℕ)
-    (agree : (number : ℕ) → number < count → AgreeAt drawing.stage m n (at number)) (place : Place) (old : Cell) where
-  corners_same : (number : ℕ) → number < triangle_count mode count → corners_at drawing m mode at number ≡ corners_at drawing n mode at number
+module _ (drawing : Drawing) (m n : ℕ → List Segment) (mode : ℕ) (at other : ℕ → ℕ) (count : ℕ)
+    (agree : (number : ℕ) → number < count → (at number ≡ other number) × AgreeAt drawing.stage m n (at number)) (place : Place) (old : Cell) where
+  -- the corners of a triangle, all of which are drawn
+  corners_at_same : (triangle : Triple) → LiesBelow count triangle
+      → corners_of drawing.stage m (at triangle.first) (at triangle.second) (at triangle.third) ≡ corners_of drawing.stage n (other triangle.first) (other triangle.second) (other triangle.third)
+  corners_at_same triangle lies =
+      let first = agree triangle.first lies.first in
+      let second = agree triangle.second lies.second in
+      let third = agree triangle.third lies.third in
+      corners_of-same m n drawing.stage (at triangle.first) (at triangle.second) (at triangle.third) (first.1) (second.1) (third.1)
+      ∙ ap (λ (p : ℕ). corners_of drawing.stage n p (at triangle.second) (at triangle.third)) (first.0)
+      ∙ ap (λ (p : ℕ). corners_of drawing.stage n (other triangle.first) p (at triangle.third)) (second.0)
+      ∙ ap (corners_of drawing.stage n (other triangle.first) (other triangle.second)) (third.0)
+
+  corners_same : (number : ℕ) → number < triangle_count mode count → corners_at drawing m mode at number ≡ corners_at drawing n mode other number
   unfolding corners_at
-  corners_same number below =
-      let lies = triangle_lies mode count number below in
-      let triangle = triangle_at mode number in
-      corners_of-same m n drawing.stage (at triangle.first) (at triangle.second) (at triangle.third)
-      (agree triangle.first lies.first) (agree triangle.second lies.second) (agree triangle.third lies.third)
+  corners_same number below = corners_at_same (triangle_at mode number) (triangle_lies mode count number below)
 
   triangles_same : (number : ℕ) → number ≤ triangle_count mode count
-      → cell_after_triangles drawing m mode at number place old ≡ cell_after_triangles drawing n mode at number place old
+      → cell_after_triangles drawing m mode at number place old ≡ cell_after_triangles drawing n mode other number place old
   unfolding cell_after_triangles
   triangles_same zero few = refl
   triangles_same (suc number) few =
       ap (λ (corners : List Vertex). cell_after_triangle drawing corners place (cell_after_triangles drawing m mode at number place old)) (corners_same number (omega arith))
-      ∙ ap (cell_after_triangle drawing (corners_at drawing n mode at number) place) (triangles_same number (omega arith))
+      ∙ ap (cell_after_triangle drawing (corners_at drawing n mode other number) place) (triangles_same number (omega arith))
 
 by_enabled : (enabled : Bool) (one other old : Cell) → (enabled ≡ true → one ≡ other) → cond enabled one old ≡ cond enabled other old
 by_enabled true one other old same = same refl
 by_enabled false one other old same = refl
 
--- where two memories agree at the place of each vertex that is drawn, a draw makes the same of each cell
-pub draws_alike : (drawing : Drawing) (m n : List Segment) (mode : ℕ) (at : ℕ → ℕ) (count : ℕ) → DrawsAlike drawing m n mode at count
+-- where two draws take elements at the same places, and memories agree there, they make the same of each cell
+pub draws_alike : (drawing : Drawing) (m n : ℕ → List Segment) (mode : ℕ) (at other : ℕ → ℕ) (count : ℕ) → DrawsAlike drawing m n mode at other count
 unfolding cell_after_draw
-draws_alike drawing m n mode at count agree place old =
-    by_enabled drawing.stage.vertex.enabled _ _ old (λ on. triangles_same drawing m n mode at count (agree on) place old (triangle_count mode count) (omega arith))
+draws_alike drawing m n mode at other count agree place old =
+    by_enabled drawing.stage.vertex.enabled _ _ old (λ on. triangles_same drawing m n mode at other count (agree on) place old (triangle_count mode count) (omega arith))

@@ -1,9 +1,8 @@
--- Where memories agree on what a draw reads by tracked state, they agree at the elements of each vertex that is drawn, and it leaves the same frame.
-use Rattle.std.proofs.Common.{◌≡◌, ℕ, ◌+◌, ◌<◌, pos, Bool, true, false, cond, inl, inr, List, [], ◌∷◌, ◌++◌, length, get_or, map, sym, ap, subst, ◌∙◌, arith}
-use Rattle.std.specs.Prelude.{nat_le, ◌==◌, All}
+-- Where client memories agree on what a draw reads by tracked state, and buffers are the same, memories agree at the elements of each vertex that is drawn, and the draw leaves the same frame.
+use Rattle.std.proofs.Common.{◌≡◌, ℕ, ◌+◌, ◌<◌, pos, Bool, true, false, cond, eqb, inl, inr, List, [], ◌∷◌, ◌++◌, length, get_or, map, refl, sym, ap, subst, ◌∙◌, arith}
+use Rattle.std.specs.Prelude.{◌==◌, All}
 use Rattle.std.specs.List.{filter, flat_map, range_with_len}
 use Rattle.std.proofs.lemmas.Bool.{true≢false, cases_lt}
-use Rattle.std.proofs.lemmas.Bool.Decides.{nat_tests}
 use Rattle.std.proofs.lemmas.List.{get_or_past}
 use Rattle.std.proofs.lemmas.List.Elements.{All-cons, All-get_or, All-head, All-nil, All-tail, All-weaker}
 use Rattle.std.proofs.lemmas.List.FromFn.{get_or-range_with_len, length-range_with_len}
@@ -13,11 +12,12 @@ use Rattle.gl_memory.specs.declared.piece.Piece.{Piece}
 use Rattle.gl_tracked.specs.declared.tracked.ArrayState.{ArrayState}
 use Rattle.gl_tracked.specs.declared.tracked.Tracked.{Tracked}
 use Rattle.gl_tracked.specs.Element.{arrays_in_order, element_at}
-use Rattle.gl_tracked.specs.Ranges.{arrays_read, is_client, places_drawn, ranges_at, ranges_of_draw}
+use Rattle.gl_tracked.specs.Ranges.{arrays_read, is_client, ranges_at}
 use Rattle.gl_tracked.specs.Tracked.{first_array}
 use Rattle.fragment_ops.specs.Frame.{FrameView, frame_changed}
 use Rattle.fragment_ops.proofs.FrameChanges.{frame_changed-alike}
 use Rattle.vertex_stage.specs.declared.stage.Stage.{Stage}
+use Rattle.vertex_stage.specs.Number.{memories_with}
 use Rattle.vertex_stage.specs.Vertex.{AgreeAt, AgreeIn}
 use Rattle.triangle_draw.specs.declared.drawing.Drawing.{Drawing}
 use Rattle.triangle_draw.specs.Draw.{cell_after_draw}
@@ -62,33 +62,25 @@ module _ {X : Type 0} (P : X → Type 0) where
   each_passed test (x ∷ xs) all =
       All-cons (λ x. test x ≡ true → P x) x xs (passed_head (test x) x (filter test xs) all) (each_passed test xs (passed_tail (test x) x (filter test xs) all))
 
--- a number of a range
-at_each : (Q : ℕ → Type 0) (first count number : ℕ) → All Q (range_with_len first count) → number < count → Q (first + number)
-at_each Q first count number all below =
-    let inside : number < length (range_with_len first count) = subst (λ (n : ℕ). number < n) (sym (length-range_with_len first count)) below in
-    subst Q (get_or-range_with_len first count number 0 below) (All-get_or Q (range_with_len first count) number 0 inside all)
+-- a number of those below a count
+at_each : (Q : ℕ → Type 0) (count number : ℕ) → All Q (range_with_len 0 count) → number < count → Q number
+at_each Q count number all below =
+    let inside : number < length (range_with_len 0 count) = subst (λ (n : ℕ). number < n) (sym (length-range_with_len 0 count)) below in
+    let none_before : 0 + number ≡ number = omega arith in
+    subst Q (get_or-range_with_len 0 count number 0 below ∙ none_before) (All-get_or Q (range_with_len 0 count) number 0 inside all)
 
 -- what a draw with an array of vertices reads
-places_drawn-few : (first count : ℕ) → nat_le count 65536 ≡ true → places_drawn (pos first) (pos count) ≡ range_with_len first count
-unfolding places_drawn
-places_drawn-few first count few = ap (λ (b : Bool). cond b (range_with_len first count) []) few
-
 arrays_read-enabled : (tracked : Tracked) → tracked.vertex.enabled ≡ true → arrays_read tracked ≡ filter is_client (arrays_in_order tracked)
 unfolding arrays_read
 arrays_read-enabled tracked enabled = ap (λ (b : Bool). cond b (filter is_client (arrays_in_order tracked)) []) enabled
 
-ranges_read : (tracked : Tracked) (first count : ℕ) → tracked.vertex.enabled ≡ true → nat_le count 65536 ≡ true
-    → ranges_of_draw tracked (pos first) (pos count) ≡ flat_map (λ array. map (element_at array) (range_with_len first count)) (filter is_client (arrays_in_order tracked))
-unfolding ranges_of_draw ranges_at
-ranges_read tracked first count enabled few =
-    ap (λ (places : List ℕ). flat_map (λ array. map (element_at array) places) (arrays_read tracked)) (places_drawn-few first count few)
-    ∙ ap (λ (arrays : List ArrayState). flat_map (λ array. map (element_at array) (range_with_len first count)) arrays) (arrays_read-enabled tracked enabled)
+ranges_read : (tracked : Tracked) (places : List ℕ) → tracked.vertex.enabled ≡ true → ranges_at tracked places ≡ flat_map (λ array. map (element_at array) places) (filter is_client (arrays_in_order tracked))
+unfolding ranges_at
+ranges_read tracked places enabled = ap (λ (arrays : List ArrayState). flat_map (λ array. map (element_at array) places) arrays) (arrays_read-enabled tracked enabled)
 
-client_array : (array : ArrayState) → array.enabled ≡ true → array.buffer ≡ 0 → is_client array ≡ true
+client_array : (array : ArrayState) → array.enabled ≡ true → (array.buffer == 0) ≡ true → is_client array ≡ true
 unfolding is_client
-client_array array enabled free =
-    let zero : (array.buffer == 0) ≡ true = grind (arith, nat_tests) in
-    rw enabled zero
+client_array array enabled free = rw enabled free
 
 module _ (m n : List Segment) where
   -- two memories have the same bytes in a range
@@ -99,55 +91,67 @@ module _ (m n : List Segment) where
   abbrev SameElement : ℕ → ArrayState → Type 0
   SameElement place array = is_client array ≡ true → Same (element_at array place)
 
-  same_elements : (tracked : Tracked) (first count number : ℕ) → tracked.vertex.enabled ≡ true → nat_le count 65536 ≡ true → number < count
-      → Agree m n (ranges_of_draw tracked (pos first) (pos count)) → All (SameElement (first + number)) (arrays_in_order tracked)
-  same_elements tracked first count number enabled few below agree =
-      let elements : ArrayState → List Piece = λ array. map (element_at array) (range_with_len first count) in
-      let read = subst (Agree m n) (ranges_read tracked first count enabled few) agree in
-      All-weaker (λ array. is_client array ≡ true → All Same (elements array)) (SameElement (first + number))
-      (λ array all passes. at_each (λ place. Same (element_at array place)) first count number (each_source Same (element_at array) (range_with_len first count) (all passes)) below)
+  same_elements : (tracked : Tracked) (at : ℕ → ℕ) (count number : ℕ) → tracked.vertex.enabled ≡ true → number < count
+      → Agree m n (ranges_at tracked (map at (range_with_len 0 count))) → All (SameElement (at number)) (arrays_in_order tracked)
+  same_elements tracked at count number enabled below agree =
+      let places = map at (range_with_len 0 count) in
+      let elements : ArrayState → List Piece = λ array. map (element_at array) places in
+      let read = subst (Agree m n) (ranges_read tracked places enabled) agree in
+      All-weaker (λ array. is_client array ≡ true → All Same (elements array)) (SameElement (at number))
+      (λ array all passes.
+      at_each (λ drawn. Same (element_at array (at drawn))) count number
+      (each_source (λ place. Same (element_at array place)) at (range_with_len 0 count) (each_source Same (element_at array) places (all passes))) below)
       (arrays_in_order tracked)
       (each_passed (λ array. All Same (elements array)) is_client (arrays_in_order tracked) (each_piece Same elements (filter is_client (arrays_in_order tracked)) read))
 
-  agree_in : (array : ArrayState) (place : ℕ) → SameElement place array → AgreeIn m n array place
-  agree_in array place same enabled free = same (client_array array enabled free)
+  module _ (buffers : ℕ → List Segment) where
+    -- in the memory of a buffer, or in client memory
+    same_by : (b : Bool) (buffer : List Segment) (piece : Piece) → (b ≡ true → Same piece) → (at : ℕ) → LiesIn at piece → byte_at (cond b m buffer) at ≡ byte_at (cond b n buffer) at
+    same_by true buffer piece same at lies = same refl at lies
+    same_by false buffer piece same at lies = refl
 
-  in_unit : (texture : List ArrayState) (unit place : ℕ) → All (SameElement place) texture → AgreeIn m n (get_or texture unit first_array) place
-  in_unit texture unit place all = elim (cases_lt unit (length texture)) [
-    | inl inside ↦ agree_in (get_or texture unit first_array) place (All-get_or (SameElement place) texture unit first_array inside all)
-    | inr past ↦ λ enabled. absurd (true≢false (sym enabled ∙ ap (λ (array : ArrayState). array.enabled) (get_or_past texture unit first_array past)))
-  ]
+    agree_in : (array : ArrayState) (place : ℕ) → SameElement place array → AgreeIn (memories_with m buffers) (memories_with n buffers) array place
+    agree_in array place same enabled = same_by (eqb array.buffer 0) (buffers array.buffer) (element_at array place) (λ free. same (client_array array enabled free))
 
-  module _ (tracked : Tracked) (stage : Stage) (has : TakesArrays tracked stage) where
-    at_place : (place : ℕ) → stage.vertex.enabled ≡ true → All (SameElement place) (arrays_in_order tracked) → AgreeAt stage m n place
-    unfolding arrays_in_order
-    at_place place enabled all =
-        let P = SameElement place in
-        let normal : ArrayState = record tracked.normal { size = pos 3 } in
-        let vertex = agree_in tracked.vertex place (All-head P tracked.vertex (normal ∷ tracked.colour ∷ tracked.texture) all) in
-        let behind_vertex = All-tail P tracked.vertex (normal ∷ tracked.colour ∷ tracked.texture) all in
-        let behind_normal = All-tail P normal (tracked.colour ∷ tracked.texture) behind_vertex in
-        let texture = All-tail P tracked.colour tracked.texture behind_normal in
-        let taken : (one other : ArrayState) → other ≡ one → AgreeIn m n one place → AgreeIn m n other place = λ one other same agree. subst (λ (array : ArrayState). AgreeIn m n array place) (sym same) agree in
-        record {
-          vertex = taken tracked.vertex stage.vertex has.vertex vertex enabled;
-          colour = taken tracked.colour stage.colour has.colour (agree_in tracked.colour place (All-head P tracked.colour tracked.texture behind_normal));
-          first_unit = taken (get_or tracked.texture 0 first_array) stage.first_unit.coordinates has.first_unit (in_unit tracked.texture 0 place texture);
-          second_unit = taken (get_or tracked.texture 1 first_array) stage.second_unit.coordinates has.second_unit (in_unit tracked.texture 1 place texture);
-        }
+    in_unit : (texture : List ArrayState) (unit place : ℕ) → All (SameElement place) texture → AgreeIn (memories_with m buffers) (memories_with n buffers) (get_or texture unit first_array) place
+    in_unit texture unit place all = elim (cases_lt unit (length texture)) [
+      | inl inside ↦ agree_in (get_or texture unit first_array) place (All-get_or (SameElement place) texture unit first_array inside all)
+      | inr past ↦ λ enabled. absurd (true≢false (sym enabled ∙ ap (λ (array : ArrayState). array.enabled) (get_or_past texture unit first_array past)))
+    ]
 
-    -- where two memories agree on what a draw reads, they agree at each vertex that is drawn
-    agree_at_vertices : (first count : ℕ) → nat_le count 65536 ≡ true → Agree m n (ranges_of_draw tracked (pos first) (pos count)) → stage.vertex.enabled ≡ true
-        → (number : ℕ) → number < count → AgreeAt stage m n (first + number)
-    agree_at_vertices first count few agree enabled number drawn =
-        let set = sym (ap (λ (array : ArrayState). array.enabled) has.vertex) ∙ enabled in
-        at_place (first + number) enabled (same_elements tracked first count number set few drawn agree)
+    module _ (tracked : Tracked) (stage : Stage) (has : TakesArrays tracked stage) where
+      at_place : (place : ℕ) → stage.vertex.enabled ≡ true → All (SameElement place) (arrays_in_order tracked) → AgreeAt stage (memories_with m buffers) (memories_with n buffers) place
+      unfolding arrays_in_order
+      at_place place enabled all =
+          let P = SameElement place in
+          let one_memories = memories_with m buffers in
+          let other_memories = memories_with n buffers in
+          let normal : ArrayState = record tracked.normal { size = pos 3 } in
+          let vertex = agree_in tracked.vertex place (All-head P tracked.vertex (normal ∷ tracked.colour ∷ tracked.texture) all) in
+          let behind_vertex = All-tail P tracked.vertex (normal ∷ tracked.colour ∷ tracked.texture) all in
+          let behind_normal = All-tail P normal (tracked.colour ∷ tracked.texture) behind_vertex in
+          let texture = All-tail P tracked.colour tracked.texture behind_normal in
+          let taken : (one other : ArrayState) → other ≡ one → AgreeIn one_memories other_memories one place → AgreeIn one_memories other_memories other place =
+          λ one other same agree. subst (λ (array : ArrayState). AgreeIn one_memories other_memories array place) (sym same) agree in
+          record {
+            vertex = taken tracked.vertex stage.vertex has.vertex vertex enabled;
+            colour = taken tracked.colour stage.colour has.colour (agree_in tracked.colour place (All-head P tracked.colour tracked.texture behind_normal));
+            first_unit = taken (get_or tracked.texture 0 first_array) stage.first_unit.coordinates has.first_unit (in_unit tracked.texture 0 place texture);
+            second_unit = taken (get_or tracked.texture 1 first_array) stage.second_unit.coordinates has.second_unit (in_unit tracked.texture 1 place texture);
+          }
 
-  -- where two memories agree on what a draw reads by tracked state, it leaves the same frame
-  pub frame_after_draw-reads : (tracked : Tracked) (drawing : Drawing) (frame : FrameView) (mode first count : ℕ) → TakesArrays tracked drawing.stage → nat_le count 65536 ≡ true
-      → Agree m n (ranges_of_draw tracked (pos first) (pos count))
-      → frame_changed (cell_after_draw drawing m mode (λ number. first + number) count) frame ≡ frame_changed (cell_after_draw drawing n mode (λ number. first + number) count) frame
-  frame_after_draw-reads tracked drawing frame mode first count has few agree =
-      let at : ℕ → ℕ = λ number. first + number in
-      frame_changed-alike (cell_after_draw drawing m mode at count) (cell_after_draw drawing n mode at count) frame
-      (draws_alike drawing m n mode at count (agree_at_vertices tracked drawing.stage has first count few agree))
+      -- where two client memories agree on what a draw reads there, memories agree at each vertex that is drawn
+      agree_at_vertices : (at : ℕ → ℕ) (count : ℕ) → Agree m n (ranges_at tracked (map at (range_with_len 0 count))) → stage.vertex.enabled ≡ true
+          → (number : ℕ) → number < count → AgreeAt stage (memories_with m buffers) (memories_with n buffers) (at number)
+      agree_at_vertices at count agree enabled number drawn =
+          let set = sym (ap (λ (array : ArrayState). array.enabled) has.vertex) ∙ enabled in
+          at_place (at number) enabled (same_elements tracked at count number set drawn agree)
+
+    -- where two client memories agree on what a draw reads there by tracked state, and the places of the elements are the same, it leaves the same frame
+    pub frame_after_draw-reads : (tracked : Tracked) (drawing : Drawing) (frame : FrameView) (mode : ℕ) (at other : ℕ → ℕ) (count : ℕ) → TakesArrays tracked drawing.stage
+        → ((number : ℕ) → number < count → at number ≡ other number) → Agree m n (ranges_at tracked (map at (range_with_len 0 count)))
+        → frame_changed (cell_after_draw drawing (memories_with m buffers) mode at count) frame ≡ frame_changed (cell_after_draw drawing (memories_with n buffers) mode other count) frame
+    frame_after_draw-reads tracked drawing frame mode at other count has same agree =
+        frame_changed-alike (cell_after_draw drawing (memories_with m buffers) mode at count) (cell_after_draw drawing (memories_with n buffers) mode other count) frame
+        (draws_alike drawing (memories_with m buffers) (memories_with n buffers) mode at other count
+        (λ enabled number drawn. (same number drawn, agree_at_vertices tracked drawing.stage has at count agree enabled number drawn)))

@@ -52,17 +52,17 @@ shade_clamped z =
     cond_both (int_lt (pos 65536) z) _ _ IsWithinOne (λ _. record { low = omega (arith, ints); high = omega (arith, ints) }) (λ to.
     record { low = omega (arith, ints); high = omega (arith, ints) }))
 
-module _ (stage : Stage) (memory : List Segment) where
-  vertex_shaded : (place : ℕ) → AreWithinOne (vertex_of stage memory place).values
+module _ (stage : Stage) (memories : ℕ → List Segment) where
+  vertex_shaded : (place : ℕ) → AreWithinOne (vertex_of stage memories place).values
   unfolding vertex_of values_of colour_of
   vertex_shaded place = record { red = shade_clamped _; green = shade_clamped _; blue = shade_clamped _; alpha = shade_clamped _ }
 
-  flat_shaded : (third place : ℕ) → AreWithinOne (with_colour_from (vertex_of stage memory third) (vertex_of stage memory place)).values
+  flat_shaded : (third place : ℕ) → AreWithinOne (with_colour_from (vertex_of stage memories third) (vertex_of stage memories place)).values
   unfolding with_colour_from vertex_of values_of colour_of
   flat_shaded third place = record { red = shade_clamped _; green = shade_clamped _; blue = shade_clamped _; alpha = shade_clamped _ }
 
   -- the corners of a triangle have colours of 0 to 1
-  pub corners_shaded : (first second third : ℕ) → HaveShades (corners_of stage memory first second third)
+  pub corners_shaded : (first second third : ℕ) → HaveShades (corners_of stage memories first second third)
   unfolding corners_of
   corners_shaded first second third =
       cond_both stage.is_smooth _ _ HaveShades

@@ -7,8 +7,8 @@ use Rattle.vertex_stage.specs.Vertex.{AgreeAt}
 use Rattle.triangle_draw.specs.declared.drawing.Drawing.{Drawing}
 use Rattle.triangle_draw.specs.Draw.{cell_after_draw}
 
--- where two memories agree at the place of each vertex that is drawn, a draw makes the same of each cell; section 2.8
-abbrev pub DrawsAlike : Drawing → List Segment → List Segment → ℕ → (ℕ → ℕ) → ℕ → Type 0
-DrawsAlike drawing m n mode at count =
-    (drawing.stage.vertex.enabled ≡ true → (number : ℕ) → number < count → AgreeAt drawing.stage m n (at number))
-    → (place : Place) (old : Cell) → cell_after_draw drawing m mode at count place old ≡ cell_after_draw drawing n mode at count place old
+-- where at each vertex that is drawn two draws take elements at the same place, and memories agree there, they make the same of each cell; section 2.8
+abbrev pub DrawsAlike : Drawing → (ℕ → List Segment) → (ℕ → List Segment) → ℕ → (ℕ → ℕ) → (ℕ → ℕ) → ℕ → Type 0
+DrawsAlike drawing m n mode at other count =
+    (drawing.stage.vertex.enabled ≡ true → (number : ℕ) → number < count → (at number ≡ other number) × AgreeAt drawing.stage m n (at number))
+    → (place : Place) (old : Cell) → cell_after_draw drawing m mode at count place old ≡ cell_after_draw drawing n mode other count place old

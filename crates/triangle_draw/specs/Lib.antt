@@ -1,5 +1,6 @@
 pub mod Drawing
 pub mod Triangle
+pub mod Elements
 pub mod Draw
 pub mod Law
 pub mod Area

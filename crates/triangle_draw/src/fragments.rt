@@ -11,9 +11,10 @@ ghost use Rattle.triangle_draw.specs.Triangle.{colour_of, depth_between};
 
 use crate::drawing::Drawing;
 use fragment_ops::{Frame, byte};
-use triangle_raster::{Fragment, Row, Run, Spot};
+use triangle_raster::{Fragment, Row, Run, Shaded, Spot};
 
 /// A depth between those of the near and the far plane: 0 becomes that of the near one, 65535 that of the far one.
+#[inline(always)]
 #[tactic(auto, unfolding(crate::specs::Triangle::depth_between))]
 fn depth_between(range: [i32; 2], depth: u16) -> u16
     requires near { IsWithinOne (number_at range 0) }
@@ -27,6 +28,7 @@ fn depth_between(range: [i32; 2], depth: u16) -> u16
 }
 
 /// The colour of a fragment in bytes: its first four values.
+#[inline(always)]
 #[tactic(auto, unfolding(crate::specs::Triangle::colour_of))]
 fn colour_of(fragment: &Fragment) -> [u8; 4]
     requires shades { AreWithinOne fragment.now.values }
@@ -80,6 +82,7 @@ impl Drawing {
     }
 
     /// Puts the fragments of a row, one after the other, and leaves out those that the depth test fails.
+    #[inline(never)]
     fn put_seen(&self, row: Row, frame: &mut Frame)
         requires drawing { IsDrawing self.now }
         requires shades { All (λ f. AreWithinOne f.values) row }
@@ -92,6 +95,7 @@ impl Drawing {
     }
 
     /// Puts a fragment.
+    #[inline(always)]
     fn put_one(&self, fragment: &Fragment, frame: &mut Frame)
         requires drawing { IsDrawing self.now }
         requires shades { AreWithinOne fragment.now.values }
@@ -103,6 +107,7 @@ impl Drawing {
     }
 
     /// Puts the fragments of a row, one after the other, each with its values.
+    #[inline(never)]
     fn put_each(&self, row: Row, frame: &mut Frame)
         requires drawing { IsDrawing self.now }
         requires shades { All (λ f. AreWithinOne f.values) row }
@@ -111,6 +116,23 @@ impl Drawing {
         let mut left = row;
         while let Some(fragment) = left.next() {
             self.put_one(&fragment, frame);
+        }
+    }
+
+    /// Puts the fragments of a row whose depth and colours are carried. What stays the same in each is taken out of memory once.
+    #[inline(never)]
+    fn put_shaded(&self, row: Shaded, frame: &mut Frame)
+        requires drawing { IsDrawing self.now }
+        requires shades { All (λ f. AreWithinOne f.values) row }
+        ensures { frame.new ≡ frame_changed (cell_after_all self.now row) frame.old }
+    {
+        let range = self.depth_range;
+        let fragments = self.fragments;
+        let mut left = row;
+        while let Some(fragment) = left.next() {
+            let depth = depth_between(range, fragment.depth);
+            let colour = colour_of(&fragment);
+            frame.put(&fragments, fragment.x, fragment.y, depth, colour);
         }
     }
 
@@ -129,6 +151,18 @@ impl Drawing {
 
     /// Puts the fragments of a row that aren't known to be alike.
     fn put_apart(&self, row: Row, frame: &mut Frame)
+        requires drawing { IsDrawing self.now }
+        requires shades { All (λ f. AreWithinOne f.values) row }
+        ensures { frame.new ≡ frame_changed (cell_after_all self.now row) frame.old }
+    {
+        match row.shaded() {
+            Some(shaded) => self.put_shaded(shaded, frame),
+            None => self.put_sought(row, frame),
+        }
+    }
+
+    /// Puts the fragments of a row that are looked for one after the other.
+    fn put_sought(&self, row: Row, frame: &mut Frame)
         requires drawing { IsDrawing self.now }
         requires shades { All (λ f. AreWithinOne f.values) row }
         ensures { frame.new ≡ frame_changed (cell_after_all self.now row) frame.old }

@@ -4,11 +4,11 @@ ghost use Rattle.std.specs.Prelude.{ℕ};
 ghost use Rattle.triangle_draw.specs.Law.{DrawsAlike};
 
 use crate::drawing::Drawing;
-use gl_memory::Memory;
+use vertex_stage::Memories;
 
-/// A draw makes the same of each cell on two memories that have the same bytes where the elements of its vertices lie in
-/// client memory (section 2.8).
-pub fn agreement_law<M: Memory, N: Memory>(drawing: &Drawing, one: &M, other: &N)
-    ensures { (mode : ℕ) (at : ℕ → ℕ) (count : ℕ)
-        → DrawsAlike drawing.now (M.segments one.now) (N.segments other.now) mode at count }
+/// Two draws that take elements at the same places make the same of each cell, where memories have the same bytes there
+/// (section 2.8).
+pub fn agreement_law<M: Memories, N: Memories>(drawing: &Drawing, one: &M, other: &N)
+    ensures { (mode : ℕ) (at also : ℕ → ℕ) (count : ℕ)
+        → DrawsAlike drawing.now (M.each one.now) (N.each other.now) mode at also count }
 {}

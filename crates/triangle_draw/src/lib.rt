@@ -3,10 +3,12 @@
 
 mod area;
 mod drawing;
+mod elements;
 mod fragments;
 pub mod laws;
 mod rows;
 mod triangles;
 
 pub use drawing::Drawing;
+pub use elements::Elements;
 pub use triangles::draw;
