@@ -3,7 +3,7 @@ use Rattle.std.proofs.Common.{◌≡◌, ℕ, ◌+◌, ◌-◌, ◌≤◌, ◌�
 use Rattle.std.specs.Prelude.{◌==◌, slice_index_or, slice_set}
 use Rattle.std.proofs.lemmas.Bool.{cond_both}
 use Rattle.gl_words.specs.declared.call.Call.{Call}
-use Rattle.gl_words.specs.declared.call.Call.TheVariants.{ColorPointer, DisableClientState, EnableClientState, Frustumx, LoadIdentity, LoadMatrixx, MultMatrixx, NormalPointer, Orthox, PixelStorei, PopMatrix, PushMatrix, Rotatex, Scalex, TexCoordPointer, Translatex, VertexPointer}
+use Rattle.gl_words.specs.declared.call.Call.TheVariants.{BindBuffer, ColorPointer, DeleteBuffers, DisableClientState, EnableClientState, Frustumx, LoadIdentity, LoadMatrixx, MultMatrixx, NormalPointer, Orthox, PixelStorei, PopMatrix, PushMatrix, Rotatex, Scalex, TexCoordPointer, Translatex, VertexPointer}
 use Rattle.gl_memory.specs.Segment.{Segment}
 use Rattle.fixed_transform.specs.declared.matrix.Matrix.{Matrix}
 use Rattle.fixed_transform.specs.Stack.{top_of, below_top}
@@ -12,7 +12,8 @@ use Rattle.gl_tracked.specs.declared.tracked.Tracked.{Tracked}
 use Rattle.gl_tracked.specs.Arrays.{with_array, with_enabled, with_pointer}
 use Rattle.gl_tracked.specs.Fault.{fault_of}
 use Rattle.gl_tracked.specs.Stack.{current_stack, current_depth, current_most, with_depth}
-use Rattle.gl_tracked.specs.Step.{set_by, with_alignment}
+use Rattle.gl_tracked.specs.Names.{without_buffers}
+use Rattle.gl_tracked.specs.Step.{set_by, with_alignment, with_binding}
 use Rattle.gl_tracked.specs.Tracked.{most_depths, AreDepths, IsSound}
 use Rattle.gl_tracked.proofs.Stacks.{pop_has_two, push_has_room}
 use Rattle.gl_state.specs.Stacks.{StacksView, current_of, most_of, depths_of}
@@ -97,7 +98,7 @@ module _ (tracked : Tracked) (s : StacksView) (deep : tracked.depths ≡ depths_
       let most = current_most-most_of tracked in
       λ full. omega arith
 
--- calls on arrays and alignments leave the depths
+-- calls on arrays, alignments and bindings leave the depths
 module _ (tracked : Tracked) where
   with_array-depths : (array : ℕ) (new : ArrayState) → (with_array tracked array new).depths ≡ tracked.depths
   unfolding with_array
@@ -118,6 +119,14 @@ module _ (tracked : Tracked) where
   unfolding with_alignment
   with_alignment-depths name alignment = cond_both (eqb name 0x0CF5) _ _ (λ (t : Tracked). t.depths ≡ tracked.depths) (λ _. refl) (λ _. refl)
 
+  with_binding-depths : (target buffer : ℕ) → (with_binding tracked target buffer).depths ≡ tracked.depths
+  unfolding with_binding
+  with_binding-depths target buffer = cond_both (eqb target 0x8892) _ _ (λ (t : Tracked). t.depths ≡ tracked.depths) (λ _. refl) (λ _. refl)
+
+  without_buffers-depths : (names : List ℕ) → (without_buffers names tracked).depths ≡ tracked.depths
+  unfolding without_buffers
+  without_buffers-depths names = refl
+
 -- the stacks are as deep as tracked state says after a call without an error too
 module _ (tracked : Tracked) (s : StacksView) (sound : IsSound tracked) (deep : tracked.depths ≡ depths_of s) where
   some_current : 1 ≤ length (current_of s tracked.matrix_mode tracked.active)
@@ -136,7 +145,9 @@ module _ (tracked : Tracked) (s : StacksView) (sound : IsSound tracked) (deep : 
 
   pub depths-set_by : (call : Call) (memory : List Segment) → (set_by tracked call memory).depths ≡ depths_of (stacks_set_by tracked s call memory)
   unfolding set_by stacks_set_by
+  depths-set_by (BindBuffer target buffer) memory = with_binding-depths tracked target buffer ∙ deep
   depths-set_by (ColorPointer size kind stride pointer) memory = with_pointer-depths tracked 0x8076 size kind stride pointer ∙ deep
+  depths-set_by (DeleteBuffers n names) memory = without_buffers-depths tracked _ ∙ deep
   depths-set_by (DisableClientState array) memory = with_enabled-depths tracked array false ∙ deep
   depths-set_by (EnableClientState array) memory = with_enabled-depths tracked array true ∙ deep
   depths-set_by (Frustumx left right bottom top near far) memory = topped _

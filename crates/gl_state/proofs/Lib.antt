@@ -1,6 +1,10 @@
 pub mod Accepting
+pub mod Bindings
 pub mod Clamping
 pub mod Depths
+pub mod Events
 pub mod Getting
 pub mod Matrices
+pub mod Naming
 pub mod Stepping
+pub mod Uploads

@@ -1,31 +1,36 @@
 -- What a call does to private state with an error and without one, and what drivers need of it for their laws.
-use Rattle.std.proofs.Common.{◌≡◌, ◌≢◌, ℕ, ℤ, false, List, [], ◌∷◌, Option, Some, None, refl, sym, subst, ap, ◌∙◌}
+use Rattle.std.proofs.Common.{◌≡◌, ◌≢◌, ℕ, ℤ, false, List, [], ◌∷◌, Option, Some, None, ◌⊎◌, inl, inr, refl, sym, subst, ap, ◌∙◌}
 use Rattle.std.specs.Option.{option_or}
+use Rattle.std.proofs.lemmas.List.Elements.{All-head}
 use Rattle.std.proofs.lemmas.Option.{none-some}
 use Rattle.gl_words.specs.Call.{is_answering}
 use Rattle.gl_words.specs.declared.call.Call.{Call}
-use Rattle.gl_words.specs.declared.call.Call.TheVariants.{Clear, DrawArrays, GetError, GetFixedv, GetIntegerv, GetPointerv, IsEnabled, LoadMatrixx, MultMatrixx, ReadPixels}
+use Rattle.gl_words.specs.declared.call.Call.TheVariants.{BindBuffer, BindTexture, BufferData, BufferSubData, Clear, DeleteBuffers, DeleteTextures, DrawArrays, DrawElements, GenBuffers, GenTextures, GetError, GetFixedv, GetIntegerv, GetPointerv, IsBuffer, IsEnabled, IsTexture, LoadMatrixx, MultMatrixx, ReadPixels}
 use Rattle.gl_words.specs.declared.error.GlError.{GlError}
+use Rattle.gl_memory.specs.Piece.{Agree}
 use Rattle.gl_memory.specs.Segment.{Segment}
+use Rattle.gl_objects.specs.declared.reply.EventReply.{EventReply}
 use Rattle.fixed_transform.specs.declared.matrix.Matrix.{Matrix}
 use Rattle.fixed_transform.specs.Stack.{below_top}
 use Rattle.gl_tracked.specs.declared.tracked.Tracked.{Tracked}
 use Rattle.gl_tracked.specs.Fault.{fault_of}
 use Rattle.gl_tracked.specs.Gets.{number_beside}
-use Rattle.gl_tracked.specs.Ranges.{range_of_matrix}
+use Rattle.gl_tracked.specs.Names.{without_buffers}
+use Rattle.gl_tracked.specs.Ranges.{range_of_matrix, range_of_names}
 use Rattle.gl_tracked.specs.Reads.{AgreesOn, Ranges, Reads}
 use Rattle.driver_trait.specs.Reply.{Nothing, Numbers}
-use Rattle.gl_tracked.specs.Step.{set_by, unless_fault, tracked_after, number_asked, ranges_of, reads_of}
+use Rattle.gl_tracked.specs.Step.{set_by, unless_fault, tracked_after, number_asked, ranges_of, reads_all, reads_of}
+use Rattle.gl_tracked.proofs.Agreeing.{SameIn, agrees_ranges, names_at-same}
 use Rattle.gl_tracked.proofs.Asking.{fault_of-asked}
 use Rattle.gl_tracked.proofs.Stepping.{reads_of-no_fault}
 use Rattle.gl_state.specs.declared.plan.Plan.{Plan}
-use Rattle.gl_state.specs.declared.plan.Plan.TheVariants.{Draw, Fault, Known, Local, Query, Read}
+use Rattle.gl_state.specs.declared.plan.Plan.TheVariants.{Ask as Asks, Draw, Fault, Known, Local, Query, Read}
 use Rattle.gl_state.specs.declared.settings.Settings.{Settings}
-use Rattle.gl_state.specs.Event.{EventReplied}
 use Rattle.gl_state.specs.Gets.{alone, capability_rows, integers_asked, limit_rows, list_beside, rectangle_rows, setting_rows, truth_asked}
 use Rattle.gl_state.specs.Private.{PrivateView}
+use Rattle.gl_state.specs.Settings.{without_textures}
 use Rattle.gl_state.specs.Stacks.{StacksView}
-use Rattle.gl_state.specs.Step.{error_set_by, fault_in, numbers_replied, plan_by, plan_found, plan_of, private_after, private_reply, settings_set_by, stacks_set_by, with_change, with_product}
+use Rattle.gl_state.specs.Step.{error_set_by, fault_in, numbers_replied, plan_by, plan_found, plan_of, private_after, private_reply, recorded_by, settings_set_by, stacks_set_by, with_change, with_product}
 use Rattle.gl_state.proofs.Matrices.{matrix_at-agree}
 
 fault_in-plan_by : (fault : Option GlError) (call : Call) → fault_in (plan_by fault call) ≡ fault
@@ -92,123 +97,193 @@ query_is_unknown plan query number known = absurd (cc)
 pub query-planned : (p : PrivateView) (call : Call) (plan : Plan) → plan ≡ plan_of p call → plan ≡ Query → plan_by None call ≡ Query
 query-planned p call plan planned query = plan_by-planned p call plan planned (query_is_unknown plan query) (ap fault_in query) ∙ query
 
+-- a call that asks for an event is planned so by itself
+pub ask-planned : (p : PrivateView) (call : Call) (plan : Plan) → plan ≡ plan_of p call → plan ≡ Asks → plan_by None call ≡ Asks
+ask-planned p call plan planned ask = plan_by-planned p call plan planned (λ number known. absurd (cc)) (ap fault_in ask) ∙ ask
+
 -- a call that is planned as local is so by itself
 pub local-planned : (p : PrivateView) (call : Call) (plan : Plan) → plan ≡ plan_of p call → plan ≡ Local → plan_by None call ≡ Local
 local-planned p call plan planned local = plan_by-planned p call plan planned (λ number known. absurd (cc)) (ap fault_in local) ∙ local
+
+-- a plan to set: by asking for an event, or locally
+abbrev pub Sets : Plan → Type 0
+Sets plan = (plan ≡ Asks) ⊎ (plan ≡ Local)
+
+-- such a plan has no error
+pub fault_in-sets : (plan : Plan) → Sets plan → fault_in plan ≡ None
+fault_in-sets plan (inl ask) = ap fault_in ask
+fault_in-sets plan (inr local) = ap fault_in local
+
+-- and is none of a query
+pub sets-no_query : (p : PrivateView) (call : Call) (plan : Plan) → plan ≡ plan_of p call → Sets plan → plan_by None call ≢ Query
+sets-no_query p call plan planned (inl ask) query = let by = ask-planned p call plan planned ask in absurd (cc)
+sets-no_query p call plan planned (inr local) query = let by = local-planned p call plan planned local in absurd (cc)
+
+-- a plan to answer knows no number
+pub answers-unknown : (plan : Plan) → (plan ≡ Query) ⊎ (plan ≡ Asks) → IsUnknown plan
+answers-unknown plan (inl query) number known = absurd (cc)
+answers-unknown plan (inr ask) number known = absurd (cc)
+
+-- only a plan that is a fault has an error
+pub fault_in-others : (plan : Plan) → ((error : GlError) → plan ≢ Fault error) → fault_in plan ≡ None
+fault_in-others (Fault error) other = absurd (other error refl)
+fault_in-others (Known number) other = refl
+fault_in-others Query other = refl
+fault_in-others Read other = refl
+fault_in-others Asks other = refl
+fault_in-others Draw other = refl
+fault_in-others Local other = refl
 
 error_set_by-no_query : (error : Option GlError) (call : Call) → plan_by None call ≢ Query → error_set_by error call ≡ error
 error_set_by-no_query error GetError other = absurd (other refl)
 error_set_by-no_query error _ other = refl
 
 -- what a call leaves that has no error and is no query, part by part
-pub private_after-parts : (p : PrivateView) (call : Call) (memory : List Segment) (event : EventReplied) {tracked : Tracked} {stacks : StacksView} {settings : Settings} → plan_by None call ≢ Query
+pub private_after-parts : (p : PrivateView) (call : Call) (memory : List Segment) {tracked : Tracked} {stacks : StacksView} {settings : Settings} → plan_by None call ≢ Query
     → tracked ≡ set_by p.tracked call memory → stacks ≡ stacks_set_by p.tracked p.stacks call memory → settings ≡ settings_set_by p.tracked p.settings call memory
-    → record p { tracked = tracked; stacks = stacks; settings = settings } ≡ private_after None p call memory event
-private_after-parts p call memory event other t s o = let same = error_set_by-no_query p.error call other in cc
+    → record p { tracked = tracked; stacks = stacks; settings = settings } ≡ private_after None p call memory None
+private_after-parts p call memory other t s o = let same = error_set_by-no_query p.error call other in cc
 
-private_after-query_by : (p : PrivateView) (call : Call) (memory : List Segment) (event : EventReplied) → plan_by None call ≡ Query → record p { error = error_set_by p.error call } ≡ private_after None p call memory event
+private_after-query_by : (p : PrivateView) (call : Call) (memory : List Segment) → plan_by None call ≡ Query → record p { error = error_set_by p.error call } ≡ private_after None p call memory None
 unfolding set_by stacks_set_by settings_set_by
-private_after-query_by p GetError memory event query = refl
-private_after-query_by p (GetFixedv pname params) memory event query = refl
-private_after-query_by p (GetIntegerv pname params) memory event query = refl
-private_after-query_by p (GetPointerv pname params) memory event query = refl
-private_after-query_by p (IsEnabled cap) memory event query = refl
-private_after-query_by p _ memory event query = absurd (cc)
+private_after-query_by p GetError memory query = refl
+private_after-query_by p (GetFixedv pname params) memory query = refl
+private_after-query_by p (GetIntegerv pname params) memory query = refl
+private_after-query_by p (GetPointerv pname params) memory query = refl
+private_after-query_by p (IsEnabled cap) memory query = refl
+private_after-query_by p _ memory query = absurd (cc)
 
 -- a query leaves all but the recorded error
-pub private_after-query : (p : PrivateView) (call : Call) (memory : List Segment) (event : EventReplied) (plan : Plan) → plan ≡ plan_of p call → plan ≡ Query
-    → record p { error = error_set_by p.error call } ≡ private_after (fault_in plan) p call memory event
-private_after-query p call memory event plan planned query =
-    private_after-query_by p call memory event (query-planned p call plan planned query)
-    ∙ ap (λ (fault : Option GlError). private_after fault p call memory event) (sym (ap fault_in query))
+pub private_after-query : (p : PrivateView) (call : Call) (memory : List Segment) (plan : Plan) → plan ≡ plan_of p call → plan ≡ Query
+    → record p { error = error_set_by p.error call } ≡ private_after None p call memory None
+private_after-query p call memory plan planned query = private_after-query_by p call memory (query-planned p call plan planned query)
 
-private_after-pixels_by : (p : PrivateView) (call : Call) (memory : List Segment) (event : EventReplied) → plan_by None call ≢ Query → plan_by None call ≢ Local → private_after None p call memory event ≡ p
+private_after-pixels_by : (p : PrivateView) (call : Call) (memory : List Segment) → plan_by None call ≢ Asks → plan_by None call ≢ Query → plan_by None call ≢ Local → private_after None p call memory None ≡ p
 unfolding set_by stacks_set_by settings_set_by
-private_after-pixels_by p (Clear mask) memory event query local = refl
-private_after-pixels_by p (DrawArrays mode first count) memory event query local = refl
-private_after-pixels_by p GetError memory event query local = absurd (query refl)
-private_after-pixels_by p (GetFixedv pname params) memory event query local = refl
-private_after-pixels_by p (GetIntegerv pname params) memory event query local = refl
-private_after-pixels_by p (GetPointerv pname params) memory event query local = refl
-private_after-pixels_by p (IsEnabled cap) memory event query local = refl
-private_after-pixels_by p (ReadPixels x y width height format kind pixels) memory event query local = refl
-private_after-pixels_by p _ memory event query local = absurd (local refl)
+private_after-pixels_by p (BindBuffer target buffer) memory ask query local = absurd (ask refl)
+private_after-pixels_by p (BindTexture target texture) memory ask query local = absurd (ask refl)
+private_after-pixels_by p (BufferData target size source usage) memory ask query local = absurd (ask refl)
+private_after-pixels_by p (BufferSubData target offset size source) memory ask query local = absurd (ask refl)
+private_after-pixels_by p (Clear mask) memory ask query local = refl
+private_after-pixels_by p (DeleteBuffers n names) memory ask query local = absurd (ask refl)
+private_after-pixels_by p (DeleteTextures n names) memory ask query local = absurd (ask refl)
+private_after-pixels_by p (DrawArrays mode first count) memory ask query local = refl
+private_after-pixels_by p (DrawElements mode count kind indices) memory ask query local = refl
+private_after-pixels_by p (GenBuffers n names) memory ask query local = absurd (ask refl)
+private_after-pixels_by p (GenTextures n names) memory ask query local = absurd (ask refl)
+private_after-pixels_by p GetError memory ask query local = absurd (query refl)
+private_after-pixels_by p (GetFixedv pname params) memory ask query local = absurd (query refl)
+private_after-pixels_by p (GetIntegerv pname params) memory ask query local = absurd (query refl)
+private_after-pixels_by p (GetPointerv pname params) memory ask query local = absurd (query refl)
+private_after-pixels_by p (IsBuffer buffer) memory ask query local = absurd (ask refl)
+private_after-pixels_by p (IsEnabled cap) memory ask query local = absurd (query refl)
+private_after-pixels_by p (IsTexture texture) memory ask query local = absurd (ask refl)
+private_after-pixels_by p (ReadPixels x y width height format kind pixels) memory ask query local = refl
+private_after-pixels_by p _ memory ask query local = absurd (local refl)
 
-private_after-pixels : (p : PrivateView) (call : Call) (memory : List Segment) (event : EventReplied) (plan : Plan) → plan_by None call ≡ plan → plan ≢ Query → plan ≢ Local → private_after None p call memory event ≡ p
-private_after-pixels p call memory event plan is query local = private_after-pixels_by p call memory event (λ by. query (sym is ∙ by)) (λ by. local (sym is ∙ by))
-
-tracked_of-private_after_by : (fault : Option GlError) (p : PrivateView) (call : Call) (memory : List Segment) (event : EventReplied) → (private_after fault p call memory event).tracked ≡ unless_fault fault p.tracked (set_by p.tracked call memory)
-tracked_of-private_after_by None p call memory event = refl
-tracked_of-private_after_by (Some error) p call memory event = refl
+tracked_of-private_after_by : (fault : Option GlError) (p : PrivateView) (call : Call) (memory : List Segment) (refused : Option GlError) → (private_after fault p call memory refused).tracked ≡ unless_fault fault p.tracked (set_by p.tracked call memory)
+tracked_of-private_after_by None p call memory refused = refl
+tracked_of-private_after_by (Some error) p call memory refused = refl
 
 -- the tracked part follows the table
-pub tracked_of-private_after : (p : PrivateView) (call : Call) (memory : List Segment) (event : EventReplied) → (private_after (fault_of p.tracked call) p call memory event).tracked ≡ tracked_after p.tracked call memory
+pub tracked_of-private_after : (p : PrivateView) (call : Call) (memory : List Segment) (refused : Option GlError) → (private_after (fault_of p.tracked call) p call memory refused).tracked ≡ tracked_after p.tracked call memory
 unfolding tracked_after
-tracked_of-private_after p call memory event = tracked_of-private_after_by (fault_of p.tracked call) p call memory event
+tracked_of-private_after p call memory refused = tracked_of-private_after_by (fault_of p.tracked call) p call memory refused
 
-private_after-fault : (p : PrivateView) (call : Call) (m n : List Segment) (event : EventReplied) (fault : Option GlError)
-    → (fault ≡ None → private_after None p call m event ≡ private_after None p call n event) → private_after fault p call m event ≡ private_after fault p call n event
-private_after-fault p call m n event None same = same refl
-private_after-fault p call m n event (Some error) same = refl
+private_after-fault : (p : PrivateView) (call : Call) (m n : List Segment) (refused : Option GlError) (fault : Option GlError)
+    → (fault ≡ None → private_after None p call m refused ≡ private_after None p call n refused) → private_after fault p call m refused ≡ private_after fault p call n refused
+private_after-fault p call m n refused None same = same refl
+private_after-fault p call m n refused (Some error) same = refl
 
 -- a matrix leaves the same on memories that agree where it lies
-loads_same : (p : PrivateView) (matrix : ℕ) (m n : List Segment) (event : EventReplied) → AgreesOn m n (Ranges (range_of_matrix matrix ∷ []))
-    → private_after None p (LoadMatrixx matrix) m event ≡ private_after None p (LoadMatrixx matrix) n event
+loads_same : (p : PrivateView) (matrix : ℕ) (m n : List Segment) (refused : Option GlError) → AgreesOn m n (Ranges (range_of_matrix matrix ∷ []))
+    → private_after None p (LoadMatrixx matrix) m refused ≡ private_after None p (LoadMatrixx matrix) n refused
 unfolding set_by stacks_set_by settings_set_by
-loads_same p matrix m n event agree =
-    ap (λ (read : Matrix). record p { stacks = with_change (λ matrices. read ∷ below_top matrices) p.tracked p.stacks }) (matrix_at-agree m n matrix agree)
+loads_same p matrix m n refused agree =
+    ap (λ (read : Matrix). record p { error = recorded_by p.error refused; stacks = with_change (λ matrices. read ∷ below_top matrices) p.tracked p.stacks }) (matrix_at-agree m n matrix agree)
 
-multiplies_same : (p : PrivateView) (matrix : ℕ) (m n : List Segment) (event : EventReplied) → AgreesOn m n (Ranges (range_of_matrix matrix ∷ []))
-    → private_after None p (MultMatrixx matrix) m event ≡ private_after None p (MultMatrixx matrix) n event
+multiplies_same : (p : PrivateView) (matrix : ℕ) (m n : List Segment) (refused : Option GlError) → AgreesOn m n (Ranges (range_of_matrix matrix ∷ []))
+    → private_after None p (MultMatrixx matrix) m refused ≡ private_after None p (MultMatrixx matrix) n refused
 unfolding set_by stacks_set_by settings_set_by
-multiplies_same p matrix m n event agree =
-    ap (λ (read : Matrix). record p { stacks = with_product read p.tracked p.stacks }) (matrix_at-agree m n matrix agree)
+multiplies_same p matrix m n refused agree =
+    ap (λ (read : Matrix). record p { error = recorded_by p.error refused; stacks = with_product read p.tracked p.stacks }) (matrix_at-agree m n matrix agree)
 
-private_after-reads_by : (p : PrivateView) (call : Call) (m n : List Segment) (event : EventReplied) → AgreesOn m n (Ranges (ranges_of p.tracked call))
-    → private_after None p call m event ≡ private_after None p call n event
+-- names of deleted objects leave the same on memories that agree where they lie
+deletes_buffers_same : (p : PrivateView) (count : ℤ) (names : ℕ) (m n : List Segment) (refused : Option GlError) → Agree m n (range_of_names names count ∷ [])
+    → private_after None p (DeleteBuffers count names) m refused ≡ private_after None p (DeleteBuffers count names) n refused
+unfolding set_by stacks_set_by settings_set_by
+deletes_buffers_same p count names m n refused agree =
+    ap (λ (deleted : List ℕ). record p { error = recorded_by p.error refused; tracked = without_buffers deleted p.tracked })
+    (names_at-same m n names count (All-head (SameIn m n) (range_of_names names count) [] agree))
+
+deletes_textures_same : (p : PrivateView) (count : ℤ) (names : ℕ) (m n : List Segment) (refused : Option GlError) → Agree m n (range_of_names names count ∷ [])
+    → private_after None p (DeleteTextures count names) m refused ≡ private_after None p (DeleteTextures count names) n refused
+unfolding set_by stacks_set_by settings_set_by
+deletes_textures_same p count names m n refused agree =
+    ap (λ (deleted : List ℕ). record p { error = recorded_by p.error refused; settings = without_textures deleted p.settings })
+    (names_at-same m n names count (All-head (SameIn m n) (range_of_names names count) [] agree))
+
+private_after-reads_by : (p : PrivateView) (call : Call) (m n : List Segment) (refused : Option GlError) → Agree m n (ranges_of p.tracked call m)
+    → private_after None p call m refused ≡ private_after None p call n refused
 unfolding ranges_of set_by stacks_set_by settings_set_by
-private_after-reads_by p (LoadMatrixx matrix) m n event agree = loads_same p matrix m n event agree
-private_after-reads_by p (MultMatrixx matrix) m n event agree = multiplies_same p matrix m n event agree
-private_after-reads_by p _ m n event agree = refl
+private_after-reads_by p (DeleteBuffers count names) m n refused agree = deletes_buffers_same p count names m n refused agree
+private_after-reads_by p (DeleteTextures count names) m n refused agree = deletes_textures_same p count names m n refused agree
+private_after-reads_by p (LoadMatrixx matrix) m n refused agree = loads_same p matrix m n refused agree
+private_after-reads_by p (MultMatrixx matrix) m n refused agree = multiplies_same p matrix m n refused agree
+private_after-reads_by p _ m n refused agree = refl
 
 -- the step is the same on memories that agree where the call reads
-pub private_after-reads : (p : PrivateView) (call : Call) (m n : List Segment) (event : EventReplied) → AgreesOn m n (reads_of p.tracked call m)
-    → private_after (fault_of p.tracked call) p call m event ≡ private_after (fault_of p.tracked call) p call n event
-private_after-reads p call m n event agree =
-    private_after-fault p call m n event (fault_of p.tracked call)
-    (λ none. private_after-reads_by p call m n event (subst (λ (reads : Reads). AgreesOn m n reads) (reads_of-no_fault p.tracked call m none) agree))
+pub private_after-reads : (p : PrivateView) (call : Call) (m n : List Segment) (refused : Option GlError) → AgreesOn m n (reads_of p.tracked call m)
+    → private_after (fault_of p.tracked call) p call m refused ≡ private_after (fault_of p.tracked call) p call n refused
+private_after-reads p call m n refused agree =
+    private_after-fault p call m n refused (fault_of p.tracked call)
+    (λ none. private_after-reads_by p call m n refused
+    (agrees_ranges m n (reads_all p.tracked call) (ranges_of p.tracked call m) (subst (λ (reads : Reads). AgreesOn m n reads) (reads_of-no_fault p.tracked call m none) agree)))
 
-module _ (p : PrivateView) (event : EventReplied) where
+-- what an event was refused for is recorded behind the rest of the step
+pub private_after-refused : (p : PrivateView) (call : Call) (memory : List Segment) (refused : Option GlError) (before : PrivateView) → before ≡ private_after None p call memory None
+    → record before { error = recorded_by before.error refused } ≡ private_after None p call memory refused
+private_after-refused p call memory refused before is = ap (λ (b : PrivateView). record b { error = recorded_by b.error refused }) is
+
+module _ (p : PrivateView) (event : EventReply) where
   -- only calls that ask for something are answered
   pub private_reply-unanswered : (fault : Option GlError) (call : Call) → is_answering call ≡ false → private_reply fault p call event ≡ Nothing
   unfolding is_answering
   private_reply-unanswered (Some error) call h = refl
+  private_reply-unanswered None (GenBuffers n names) h = absurd (cc)
+  private_reply-unanswered None (GenTextures n names) h = absurd (cc)
   private_reply-unanswered None GetError h = absurd (cc)
   private_reply-unanswered None (GetFixedv pname params) h = absurd (cc)
   private_reply-unanswered None (GetIntegerv pname params) h = absurd (cc)
   private_reply-unanswered None (GetPointerv pname params) h = absurd (cc)
+  private_reply-unanswered None (IsBuffer buffer) h = absurd (cc)
   private_reply-unanswered None (IsEnabled cap) h = absurd (cc)
+  private_reply-unanswered None (IsTexture texture) h = absurd (cc)
   private_reply-unanswered None _ h = refl
 
-  private_reply-no_query_by : (fault : Option GlError) (call : Call) → plan_by fault call ≢ Query → private_reply fault p call event ≡ Nothing
-  private_reply-no_query_by (Some error) call other = refl
-  private_reply-no_query_by None GetError other = absurd (other refl)
-  private_reply-no_query_by None (GetFixedv pname params) other = absurd (other refl)
-  private_reply-no_query_by None (GetIntegerv pname params) other = absurd (other refl)
-  private_reply-no_query_by None (GetPointerv pname params) other = absurd (other refl)
-  private_reply-no_query_by None (IsEnabled cap) other = absurd (other refl)
-  private_reply-no_query_by None _ other = refl
+  private_reply-others_by : (fault : Option GlError) (call : Call) → plan_by fault call ≢ Query → plan_by fault call ≢ Asks → private_reply fault p call event ≡ Nothing
+  private_reply-others_by (Some error) call query ask = refl
+  private_reply-others_by None (GenBuffers n names) query ask = absurd (ask refl)
+  private_reply-others_by None (GenTextures n names) query ask = absurd (ask refl)
+  private_reply-others_by None GetError query ask = absurd (query refl)
+  private_reply-others_by None (GetFixedv pname params) query ask = absurd (query refl)
+  private_reply-others_by None (GetIntegerv pname params) query ask = absurd (query refl)
+  private_reply-others_by None (GetPointerv pname params) query ask = absurd (query refl)
+  private_reply-others_by None (IsBuffer buffer) query ask = absurd (ask refl)
+  private_reply-others_by None (IsEnabled cap) query ask = absurd (query refl)
+  private_reply-others_by None (IsTexture texture) query ask = absurd (ask refl)
+  private_reply-others_by None _ query ask = refl
 
-  no_query_by : (asked : Option ℤ) (fault : Option GlError) (call : Call) (plan : Plan) → plan ≡ plan_found asked fault call → IsUnknown plan → plan ≢ Query → private_reply fault p call event ≡ Nothing
-  no_query_by (Some number) fault call plan planned unknown other = absurd (unknown number planned)
-  no_query_by None fault call plan planned unknown other = private_reply-no_query_by fault call (λ query. other (planned ∙ query))
+  others_by : (asked : Option ℤ) (fault : Option GlError) (call : Call) (plan : Plan) → plan ≡ plan_found asked fault call → IsUnknown plan → plan ≢ Query → plan ≢ Asks → private_reply fault p call event ≡ Nothing
+  others_by (Some number) fault call plan planned unknown query ask = absurd (unknown number planned)
+  others_by None fault call plan planned unknown query ask = private_reply-others_by fault call (λ is. query (planned ∙ is)) (λ is. ask (planned ∙ is))
 
-  -- only known numbers and queries are answered from the private state
-  pub private_reply-no_query : (call : Call) (plan : Plan) → plan ≡ plan_of p call → IsUnknown plan → plan ≢ Query → private_reply (fault_in plan) p call event ≡ Nothing
+  -- only known numbers, queries and what asks objects are answered
+  pub private_reply-others : (call : Call) (plan : Plan) → plan ≡ plan_of p call → IsUnknown plan → plan ≢ Query → plan ≢ Asks → private_reply (fault_in plan) p call event ≡ Nothing
   unfolding plan_of
-  private_reply-no_query call plan planned unknown other =
+  private_reply-others call plan planned unknown query ask =
       ap (λ (fault : Option GlError). private_reply fault p call event) (sym (fault_of-planned p call plan planned))
-      ∙ no_query_by (number_asked p.tracked call) (fault_of p.tracked call) call plan planned unknown other
+      ∙ others_by (number_asked p.tracked call) (fault_of p.tracked call) call plan planned unknown query ask
 
   -- a call that asks for a number of tracked state is answered by it alone
   pub private_reply-asked : (call : Call) (number : ℤ) → number_asked p.tracked call ≡ Some number → private_reply None p call event ≡ Numbers (number ∷ [])
@@ -219,28 +294,33 @@ module _ (p : PrivateView) (event : EventReplied) where
   private_reply-asked (IsEnabled cap) number asked = ap (λ (o : Option ℤ). numbers_replied (alone (option_or o (number_beside (capability_rows p) cap)))) asked
   private_reply-asked _ number asked = absurd (none-some number asked)
 
-  -- and it changes nothing
-  pub private_after-asked : (call : Call) (memory : List Segment) (number : ℤ) → number_asked p.tracked call ≡ Some number → private_after None p call memory event ≡ p
-  unfolding number_asked set_by stacks_set_by settings_set_by
-  private_after-asked (GetIntegerv pname params) memory number asked = refl
-  private_after-asked (GetPointerv pname params) memory number asked = refl
-  private_after-asked (IsEnabled cap) memory number asked = refl
-  private_after-asked _ memory number asked = absurd (none-some number asked)
-
   -- a known number is what a call replies
   pub private_reply-known : (call : Call) (plan : Plan) (number : ℤ) → plan ≡ plan_of p call → plan ≡ Known number → Numbers (number ∷ []) ≡ private_reply (fault_in plan) p call event
   private_reply-known call plan number planned known =
       sym (private_reply-asked call number (number-planned p call number (sym known ∙ planned)))
       ∙ ap (λ (fault : Option GlError). private_reply fault p call event) (sym (ap fault_in known))
 
-  -- a call that has no error, is no query and isn't local leaves the private state
-  pub private_after-others : (call : Call) (memory : List Segment) (plan : Plan) → plan ≡ plan_of p call → ((error : GlError) → plan ≢ Fault error) → plan ≢ Query → plan ≢ Local
-      → p ≡ private_after (fault_in plan) p call memory event
-  private_after-others call memory (Fault error) planned fault query local = absurd (fault error refl)
-  private_after-others call memory (Known number) planned fault query local = sym (private_after-asked call memory number (number-planned p call number planned))
-  private_after-others call memory Query planned fault query local = absurd (query refl)
-  private_after-others call memory Read planned fault query local =
-      sym (private_after-pixels p call memory event Read (plan_by-planned p call Read planned (λ number known. absurd (cc)) refl) query local)
-  private_after-others call memory Draw planned fault query local =
-      sym (private_after-pixels p call memory event Draw (plan_by-planned p call Draw planned (λ number known. absurd (cc)) refl) query local)
-  private_after-others call memory Local planned fault query local = absurd (local refl)
+module _ (p : PrivateView) where
+  -- a call that asks for a number of tracked state changes nothing
+  pub private_after-asked : (call : Call) (memory : List Segment) (number : ℤ) → number_asked p.tracked call ≡ Some number → private_after None p call memory None ≡ p
+  unfolding number_asked set_by stacks_set_by settings_set_by
+  private_after-asked (GetIntegerv pname params) memory number asked = refl
+  private_after-asked (GetPointerv pname params) memory number asked = refl
+  private_after-asked (IsEnabled cap) memory number asked = refl
+  private_after-asked _ memory number asked = absurd (none-some number asked)
+
+  private_after-pixels : (call : Call) (memory : List Segment) (plan : Plan) → plan ≡ plan_of p call → IsUnknown plan → fault_in plan ≡ None → plan ≢ Asks → plan ≢ Query → plan ≢ Local → p ≡ private_after None p call memory None
+  private_after-pixels call memory plan planned unknown none ask query local =
+      let by = plan_by-planned p call plan planned unknown none in
+      sym (private_after-pixels_by p call memory (λ is. ask (sym by ∙ is)) (λ is. query (sym by ∙ is)) (λ is. local (sym by ∙ is)))
+
+  -- a call without an error leaves the private state that is no query, isn't local and asks for nothing of the objects
+  pub private_after-others : (call : Call) (memory : List Segment) (plan : Plan) → plan ≡ plan_of p call → ((error : GlError) → plan ≢ Fault error) → plan ≢ Query → plan ≢ Asks → plan ≢ Local
+      → p ≡ private_after None p call memory None
+  private_after-others call memory (Fault error) planned fault query ask local = absurd (fault error refl)
+  private_after-others call memory (Known number) planned fault query ask local = sym (private_after-asked call memory number (number-planned p call number planned))
+  private_after-others call memory Query planned fault query ask local = absurd (query refl)
+  private_after-others call memory Read planned fault query ask local = private_after-pixels call memory Read planned (λ number known. absurd (cc)) refl ask query local
+  private_after-others call memory Asks planned fault query ask local = absurd (ask refl)
+  private_after-others call memory Draw planned fault query ask local = private_after-pixels call memory Draw planned (λ number known. absurd (cc)) refl ask query local
+  private_after-others call memory Local planned fault query ask local = absurd (local refl)

@@ -7,4 +7,5 @@ pub mod Step
 pub use Rattle.fixed_transform.specs.Matrix
 pub use Rattle.fragment_ops.specs.Frame
 pub use Rattle.fragment_ops.specs.State
+pub use Rattle.gl_objects.specs.Event as ObjectsEvent
 pub use Rattle.gl_tracked.specs.Tracked

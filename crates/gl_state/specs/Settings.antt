@@ -1,8 +1,9 @@
 -- What calls set besides stacks, tracked state and errors, its values at the start, and what fragment operations take of it. No driver, batch or front stands here.
-use Rattle.std.specs.Prelude.{ℕ, ◌==◌, ℤ, pos, neg_ℤ, ◌≤ℤ◌, int_lt, if◌then◌else◌, Bool, true, false, List, [], ◌∷◌, slice_set}
+use Rattle.std.specs.Prelude.{ℕ, ◌==◌, ℤ, pos, neg_ℤ, ◌≤ℤ◌, int_lt, if◌then◌else◌, Bool, true, false, List, [], ◌∷◌, map, slice_set}
 use Rattle.fragment_ops.specs.declared.state.FragmentState.{FragmentState}
 use Rattle.fragment_ops.specs.State.{number_at, AreWithinOne, IsOneOf, IsRectangle, IsWithinOne}
 use Rattle.gl_tracked.specs.Enumerants.{comparisons, dest_factors, faces, shadings, source_factors, windings}
+use Rattle.gl_tracked.specs.Names.{binding_after}
 use Rattle.gl_state.specs.declared.settings.Capabilities.{Capabilities}
 use Rattle.gl_state.specs.declared.settings.Settings.{Settings}
 
@@ -70,6 +71,10 @@ with_capability capabilities place cap is_on =
     if cap == 0x0BD0 then record capabilities { dither = is_on } else (
     if cap == 0x0BE2 then record capabilities { blend = is_on } else (
     if cap == 0x0C11 then record capabilities { scissor_test = is_on } else record capabilities { texture_2d = slice_set capabilities.texture_2d place is_on })))))
+
+-- settings after these textures were deleted: the binding of each unit is 0 where it was one of them; section 3.7.11
+unfoldable pub without_textures : List ℕ → Settings → Settings
+without_textures names settings = record settings { bindings = map (binding_after names) settings.bindings }
 
 -- a number clamped to lie between two others; own
 abbrev pub clamped_within : ℤ → ℤ → ℤ → ℤ

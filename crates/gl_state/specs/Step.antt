@@ -1,7 +1,7 @@
--- What a call does to the private state of a context, what it replies, and what it needs beyond that state; sections 2.5, 2.7, 2.10.1, 2.10.2, 2.12, 3.5.1, 4.1, 4.2 and 6.1. An error is handed to each part: who carries the call out finds it once.
-use Rattle.std.specs.Prelude.{ℕ, ℤ, pos, Bool, true, false, List, [], ◌∷◌, slice_set, Option, Some, None}
+-- What a call does to the private state of a context, what it replies, and what it needs beyond that state; sections 2.5, 2.7, 2.9, 2.10.1, 2.10.2, 2.12, 3.5.1, 3.7.11, 4.1, 4.2 and 6.1. An error is handed to each part: who carries the call out finds it once.
+use Rattle.std.specs.Prelude.{ℕ, ℤ, pos, Bool, true, false, List, [], ◌∷◌, map, slice_set, Option, Some, None}
 use Rattle.gl_words.specs.declared.call.Call.{Call}
-use Rattle.gl_words.specs.declared.call.Call.TheVariants.{AlphaFuncx, BlendFunc, Clear, ClearColorx, ClearDepthx, Color4x, ColorMask, CullFace, DepthFunc, DepthMask, DepthRangex, Disable, DrawArrays, Enable, FrontFace, Frustumx, GetError, GetFixedv, GetIntegerv, GetPointerv, IsEnabled, LoadIdentity, LoadMatrixx, MultMatrixx, MultiTexCoord4x, Normal3x, Orthox, PopMatrix, PushMatrix, ReadPixels, Rotatex, Scalex, Scissor, ShadeModel, Translatex, Viewport}
+use Rattle.gl_words.specs.declared.call.Call.TheVariants.{AlphaFuncx, BindBuffer, BindTexture, BlendFunc, BufferData, BufferSubData, Clear, ClearColorx, ClearDepthx, Color4x, ColorMask, CullFace, DeleteBuffers, DeleteTextures, DepthFunc, DepthMask, DepthRangex, Disable, DrawArrays, DrawElements, Enable, FrontFace, Frustumx, GenBuffers, GenTextures, GetError, GetFixedv, GetIntegerv, GetPointerv, IsBuffer, IsEnabled, IsTexture, LoadIdentity, LoadMatrixx, MultMatrixx, MultiTexCoord4x, Normal3x, Orthox, PopMatrix, PushMatrix, ReadPixels, Rotatex, Scalex, Scissor, ShadeModel, Translatex, Viewport}
 use Rattle.gl_words.specs.declared.error.GlError.{GlError}
 use Rattle.gl_words.specs.GlError.{code_of}
 use Rattle.gl_memory.specs.Segment.{Segment}
@@ -11,17 +11,19 @@ use Rattle.fixed_transform.specs.Projection.{frustum_of, ortho_of}
 use Rattle.fixed_transform.specs.Rotation.{rotation_of}
 use Rattle.fixed_transform.specs.Stack.{top_of, below_top}
 use Rattle.gl_tracked.specs.declared.tracked.Tracked.{Tracked}
+use Rattle.gl_objects.specs.declared.reply.EventReply.{EventReply}
+use Rattle.gl_tracked.specs.Count.{count_of}
 use Rattle.gl_tracked.specs.Fault.{fault_of}
-use Rattle.gl_tracked.specs.Gets.{pointer_asked}
+use Rattle.gl_tracked.specs.Gets.{number_of_truth, pointer_asked}
+use Rattle.gl_tracked.specs.Names.{names_at}
 use Rattle.gl_tracked.specs.Step.{number_asked, set_by}
 use Rattle.driver_trait.specs.Reply.{Replied, Nothing, Numbers}
 use Rattle.gl_state.specs.declared.settings.Settings.{Settings}
 use Rattle.gl_state.specs.declared.plan.Plan.{Plan}
-use Rattle.gl_state.specs.declared.plan.Plan.TheVariants.{Draw, Fault, Known, Local, Query, Read}
-use Rattle.gl_state.specs.Event.{EventReplied}
+use Rattle.gl_state.specs.declared.plan.Plan.TheVariants.{Ask as Asks, Draw, Fault, Known, Local, Query, Read}
 use Rattle.gl_state.specs.Gets.{alone, fixed_asked, fixed_length, integers_asked, integers_length, truth_asked}
 use Rattle.gl_state.specs.Private.{PrivateView}
-use Rattle.gl_state.specs.Settings.{clamped_to_one, clamped_origin, clamped_side, place_of_unit, with_capability}
+use Rattle.gl_state.specs.Settings.{clamped_to_one, clamped_origin, clamped_side, place_of_unit, with_capability, without_textures}
 use Rattle.gl_state.specs.Stacks.{StacksView, current_of, matrix_at, with_current}
 
 -- the stacks with another current one, that of the matrix mode and the active unit; section 2.10.2
@@ -88,9 +90,11 @@ is_of_frame (ColorMask red green blue alpha) = true
 is_of_frame (DepthMask flag) = true
 is_of_frame _ = false
 
--- the settings after a call without an error on a memory, from which none is read, by tracked state, whose active unit tells of which unit TEXTURE_2D is; sections 2.7, 2.10.1, 2.12.1, 2.12.7, 3.5.1, 4.1.2 to 4.1.7, 4.2.2 and 4.2.3
+-- the settings after a call without an error on a memory, from which DeleteTextures takes names, by tracked state, whose active unit tells of which unit TEXTURE_2D and a bound texture are; sections 2.7, 2.10.1, 2.12.1, 2.12.7, 3.5.1, 3.7.11, 4.1.2 to 4.1.7, 4.2.2 and 4.2.3
 unfoldable pub settings_set_by : Tracked → Settings → Call → List Segment → Settings
 settings_set_by tracked settings (AlphaFuncx func reference) memory = record settings { alpha_func = func; alpha_reference = clamped_to_one reference }
+settings_set_by tracked settings (BindTexture target texture) memory =
+    record settings { bindings = slice_set settings.bindings (place_of_unit tracked.active) texture }
 settings_set_by tracked settings (BlendFunc sfactor dfactor) memory = record settings { source_factor = sfactor; dest_factor = dfactor }
 settings_set_by tracked settings (ClearColorx red green blue alpha) memory =
     record settings { clear_colour = clamped_to_one red ∷ clamped_to_one green ∷ clamped_to_one blue ∷ clamped_to_one alpha ∷ [] }
@@ -98,6 +102,7 @@ settings_set_by tracked settings (ClearDepthx depth) memory = record settings { 
 settings_set_by tracked settings (Color4x red green blue alpha) memory = record settings { colour = red ∷ green ∷ blue ∷ alpha ∷ [] }
 settings_set_by tracked settings (ColorMask red green blue alpha) memory = record settings { colour_mask = red ∷ green ∷ blue ∷ alpha ∷ [] }
 settings_set_by tracked settings (CullFace mode) memory = record settings { cull_face = mode }
+settings_set_by tracked settings (DeleteTextures n names) memory = without_textures (names_at memory names (count_of n)) settings
 settings_set_by tracked settings (DepthFunc func) memory = record settings { depth_func = func }
 settings_set_by tracked settings (DepthMask flag) memory = record settings { depth_mask = flag }
 settings_set_by tracked settings (DepthRangex near far) memory = record settings { depth_range = clamped_to_one near ∷ clamped_to_one far ∷ [] }
@@ -125,11 +130,16 @@ abbrev pub error_set_by : Option GlError → Call → Option GlError
 error_set_by error GetError = None
 error_set_by error _ = error
 
--- the private state after a call with this error, or none, on a memory, its event having given this back: an error is recorded, and the call does nothing else; section 2.5. What an event gives back sets nothing yet
-abbrev pub private_after : Option GlError → PrivateView → Call → List Segment → EventReplied → PrivateView
-private_after (Some error) p call memory event = record p { error = recorded p.error error }
-private_after None p call memory event = record p {
-  error = error_set_by p.error call;
+-- the recorded error after an event was refused for this fault, or for none: it is recorded after those of the call; section 2.5
+abbrev pub recorded_by : Option GlError → Option GlError → Option GlError
+recorded_by error None = error
+recorded_by error (Some fault) = recorded error fault
+
+-- the private state after a call with this error, or none, on a memory, of which the event was refused for this fault, or for none: an error is recorded, and the call does nothing else, and so is what the event was refused for; sections 2.5 and 2.9
+abbrev pub private_after : Option GlError → PrivateView → Call → List Segment → Option GlError → PrivateView
+private_after (Some error) p call memory refused = record p { error = recorded p.error error }
+private_after None p call memory refused = record p {
+  error = recorded_by (error_set_by p.error call) refused;
   tracked = set_by p.tracked call memory;
   stacks = stacks_set_by p.tracked p.stacks call memory;
   settings = settings_set_by p.tracked p.settings call memory;
@@ -145,32 +155,49 @@ abbrev pub numbers_replied : Option (List ℤ) → Replied
 numbers_replied None = Nothing
 numbers_replied (Some numbers) = Numbers numbers
 
--- what a call other than ReadPixels replies with this error, or none, its event having given this back: a get what it asks for, GetError the recorded error; sections 2.5 and 6.1. No reply tells of an event yet, and none is read from memory
-abbrev pub private_reply : Option GlError → PrivateView → Call → EventReplied → Replied
+-- what a call other than ReadPixels replies with this error, or none, its event having given this back: a get what it asks for, GetError the recorded error, and what asks for names or whether one is that of an object what the event tells; sections 2.5, 2.9, 3.7.11 and 6.1. None is read from memory
+abbrev pub private_reply : Option GlError → PrivateView → Call → EventReply → Replied
 private_reply (Some error) p call event = Nothing
+private_reply None p (GenBuffers n names) event = Numbers (map pos event.names)
+private_reply None p (GenTextures n names) event = Numbers (map pos event.names)
 private_reply None p GetError event = Numbers (pos (code_of_error p.error) ∷ [])
 private_reply None p (GetFixedv pname params) event = numbers_replied (fixed_asked p pname)
 private_reply None p (GetIntegerv pname params) event = numbers_replied (integers_asked p pname)
 private_reply None p (GetPointerv pname params) event = numbers_replied (alone (pointer_asked p.tracked pname))
+private_reply None p (IsBuffer buffer) event = Numbers (number_of_truth event.truth ∷ [])
 private_reply None p (IsEnabled cap) event = numbers_replied (truth_asked p cap)
+private_reply None p (IsTexture texture) event = Numbers (number_of_truth event.truth ∷ [])
 private_reply None p _ event = Nothing
 
--- how many numbers a call without an error replies as a list, 0 where it replies one number or nothing; section 6.1
+-- the most numbers that a call without an error replies as a list, 0 where it replies one number or nothing; sections 2.9, 3.7.11 and 6.1
 abbrev pub list_length : Call → ℕ
+list_length (GenBuffers n names) = count_of n
+list_length (GenTextures n names) = count_of n
 list_length (GetFixedv pname params) = fixed_length pname
 list_length (GetIntegerv pname params) = integers_length pname
 list_length _ = 0
 
--- what a call needs beyond the private state, with this error or none, where it asks for no number of tracked state: Clear and DrawArrays change the pixels of the frame, ReadPixels reads them, all others need nothing, of which the queries are answered; own
+-- what a call needs beyond the private state, with this error or none, where it asks for no number of tracked state: what binds, fills, names and deletes objects, or asks whether a name is that of one, may make an event of them; Clear and draws change the pixels of the frame, ReadPixels reads them, all others need nothing, of which the queries are answered; own
 abbrev pub plan_by : Option GlError → Call → Plan
 plan_by (Some error) call = Fault error
+plan_by None (BindBuffer target buffer) = Asks
+plan_by None (BindTexture target texture) = Asks
+plan_by None (BufferData target size source usage) = Asks
+plan_by None (BufferSubData target offset size source) = Asks
 plan_by None (Clear mask) = Draw
+plan_by None (DeleteBuffers n names) = Asks
+plan_by None (DeleteTextures n names) = Asks
 plan_by None (DrawArrays mode first count) = Draw
+plan_by None (DrawElements mode count kind indices) = Draw
+plan_by None (GenBuffers n names) = Asks
+plan_by None (GenTextures n names) = Asks
 plan_by None GetError = Query
 plan_by None (GetFixedv pname params) = Query
 plan_by None (GetIntegerv pname params) = Query
 plan_by None (GetPointerv pname params) = Query
+plan_by None (IsBuffer buffer) = Asks
 plan_by None (IsEnabled cap) = Query
+plan_by None (IsTexture texture) = Asks
 plan_by None (ReadPixels x y width height format kind pixels) = Read
 plan_by None _ = Local
 
@@ -189,10 +216,12 @@ fault_in (Fault error) = Some error
 fault_in (Known number) = None
 fault_in Query = None
 fault_in Read = None
+fault_in Asks = None
 fault_in Draw = None
 fault_in Local = None
 
--- how many numbers a call with this plan replies as a list: only queries reply one; section 6.1
+-- how many numbers a call with this plan replies as a list: only queries, and what asks objects for names, reply one; sections 2.9, 3.7.11 and 6.1
 abbrev pub room_of : Plan → Call → ℕ
 room_of Query call = list_length call
+room_of Asks call = list_length call
 room_of _ call = 0

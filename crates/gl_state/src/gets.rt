@@ -1,11 +1,10 @@
 //! What the gets give of private state. Numbers of its tracked part are found before, by the plan.
 
-ghost use Rattle.std.specs.Prelude.{◌≡◌, ◌≤◌, ◌<◌, [], ◌∷◌, None, Some, length};
+ghost use Rattle.std.specs.Prelude.{◌≡◌, ◌≤◌, ◌<◌, pos, [], ◌∷◌, None, Some, length, map};
 ghost use Rattle.std.specs.Option.{option_or};
 ghost use Rattle.gl_tracked.specs.Gets.{number_beside, number_of_truth};
 ghost use Rattle.driver_trait.specs.Reply.{replied};
 ghost use Rattle.gl_tracked.specs.Step.{number_asked};
-ghost use Rattle.gl_state.specs.Event.{EventReplied};
 ghost use Rattle.gl_state.specs.Gets.{active_unit, alone, capability_rows, fixed_asked, fixed_length, integers_length, limit_rows, list_beside, rectangle_rows, setting_rows};
 ghost use Rattle.gl_state.specs.Step.{list_length, numbers_replied, private_reply};
 
@@ -13,22 +12,27 @@ use crate::private::Private;
 use crate::settings::place_of_unit;
 use driver_trait::Reply;
 use gl_memory::Numbers;
+use gl_objects::EventReply;
 use gl_words::Call;
 
 impl Private {
-    /// What a call without an error replies, ReadPixels and what asks for a number of tracked
-    /// state aside (sections 2.5 and 6.1).
-    pub(crate) fn answer(&self, call: &Call, room: Numbers) -> Reply
+    /// What a call without an error replies, its event having given this back, ReadPixels and what asks for a number of tracked
+    /// state aside (sections 2.5, 2.9, 3.7.11 and 6.1).
+    pub(crate) fn answer(&self, call: &Call, event: &EventReply, room: Numbers) -> Reply
         requires unknown { number_asked self.now.tracked call.now ≡ None }
         requires empty { room.items ≡ [] }
         requires room { list_length call.now ≤ room.room }
-        ensures { (event : EventReplied) → replied result
-            ≡ private_reply None self.now call.now event }
+        requires names { length event.now.names ≤ list_length call.now }
+        ensures { replied result ≡ private_reply None self.now call.now event.now }
     {
         match call {
+            Call::GenBuffers { .. } | Call::GenTextures { .. } => {
+                all_names(event.names.as_slice(), room)
+            }
             Call::GetError => Reply::One(i64::from(self.error_code())),
             Call::GetFixedv { pname, .. } => self.fixed(*pname, room),
             Call::GetIntegerv { pname, .. } => self.integers(*pname, room),
+            Call::IsBuffer { .. } | Call::IsTexture { .. } => truth(event.truth),
             Call::IsEnabled { cap } => self.capability(*cap),
             _ => Reply::Nothing,
         }
@@ -126,6 +130,19 @@ fn all(values: &[i32], room: Numbers) -> Reply
     let mut numbers = room;
     for value in values {
         numbers.push(i64::from(*value));
+    }
+    Reply::Numbers(numbers)
+}
+
+/// Names as a reply.
+fn all_names(names: &[u32], room: Numbers) -> Reply
+    requires empty { room.items ≡ [] }
+    requires room { length names.now ≤ room.room }
+    ensures { replied result ≡ numbers_replied (Some (map pos names.now)) }
+{
+    let mut numbers = room;
+    for name in names {
+        numbers.push(i64::from(*name));
     }
     Reply::Numbers(numbers)
 }

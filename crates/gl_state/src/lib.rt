@@ -1,14 +1,15 @@
 //! The private state of a context: all that calls set, but objects and pixels; and what a call does to it.
 #![tactic(auto)]
 
-mod event;
+mod ask;
 mod gets;
 mod plan;
+mod planning;
 mod private;
 mod settings;
 mod stacks;
 
-pub use event::EventReply;
+pub use ask::Ask;
 pub use plan::Plan;
 pub use private::Private;
 pub use settings::{Capabilities, Settings};

@@ -14,7 +14,11 @@ pub enum Plan {
     Query,
     /// The pixels of the frame: it is answered with them, and sets nothing (section 4.3.1).
     Read,
-    /// The pixels of the frame: it changes them, sets nothing else, and isn't answered (sections 2.8 and 4.2.3).
+    /// The objects that contexts share: it may make an event of them, sets private state, and may be answered with what
+    /// they give back (sections 2.9, 3.7.11 and 6.1).
+    Ask,
+    /// The pixels of the frame, and the objects that a draw uses: it changes the pixels, sets nothing else, and isn't
+    /// answered (sections 2.8 and 4.2.3).
     Draw,
     /// Nothing: it sets private state, or does nothing, and isn't answered (chapters 2 to 5).
     Local,

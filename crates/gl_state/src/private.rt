@@ -1,20 +1,18 @@
 //! The private state of a context, its state at the start, and what a call does to it.
 
-ghost use Rattle.std.specs.Prelude.{◌≡◌, ◌<◌, ◌≤◌, ◌≢◌, None, [], IfOk, IsErr};
+ghost use Rattle.std.specs.Prelude.{◌≡◌, ◌<◌, ◌≤◌, ◌≢◌, None, [], length, IfOk, IsErr};
 ghost use Rattle.gl_tracked.specs.Fault.{fault_of};
 ghost use Rattle.driver_trait.specs.Reply.{replied};
 ghost use Rattle.gl_tracked.specs.Tracked.{IsSound};
-ghost use Rattle.gl_state.specs.Event.{EventReplied, event_replied};
 ghost use Rattle.gl_state.specs.Gets.{fixed_length, integers_length};
 ghost use Rattle.gl_state.specs.Private.{first_private};
 ghost use Rattle.gl_state.specs.Settings.{fragment_state_of, AreAccepted, AreClamped};
 ghost use Rattle.gl_state.specs.Stacks.{current_of, texture_of};
-ghost use Rattle.gl_state.specs.Step.{code_of_error, error_set_by, fault_in, list_length, plan_by, plan_of, private_after, private_reply, recorded, room_of};
+ghost use Rattle.gl_state.specs.Step.{code_of_error, error_set_by, fault_in, list_length, plan_by, plan_of, private_after, private_reply, recorded, recorded_by, room_of};
 ghost use Rattle.fixed_transform.specs.Stack.{top_of};
 ghost use Rattle.fragment_ops.specs.Frame.{AreSides};
 ghost use Rattle.fragment_ops.specs.State.{AreWithinOne, IsFragmentState};
 
-use crate::event::EventReply;
 use crate::plan::Plan;
 use crate::settings::Settings;
 use crate::stacks::Stacks;
@@ -22,7 +20,8 @@ use driver_trait::Reply;
 use fixed_transform::Matrix;
 use fragment_ops::FragmentState;
 use gl_memory::{Memory, Numbers};
-use gl_tracked::{Finding, Tracked};
+use gl_objects::EventReply;
+use gl_tracked::{Tracked, count_of};
 use gl_words::{Call, GlError};
 use std::alloc::{AllocError as NoMemory, Global};
 use std::marker::Model;
@@ -193,57 +192,69 @@ impl Private {
         }
     }
 
-    /// How a call is carried out: all that is found of it, at one look; own.
-    #[tactic(auto, unfolding(crate::specs::Step::plan_of))]
-    pub fn plan(&self, call: &Call) -> Plan
-        ensures { result ≡ plan_of self.now call.now }
-    {
-        match self.tracked.finding(call) {
-            Finding::Number(number) => Plan::Known(number),
-            Finding::Fault(Some(error)) => Plan::Fault(error),
-            Finding::Fault(None) => plan_without_fault(call),
-        }
-    }
-
-    /// Room for the numbers of a call's reply, where they are a list. Only this takes memory, and only for such a call; own.
+    /// Room for the numbers of a call's reply, where they are a list: it is asked for before the call's event is applied.
+    /// Only this and `event` take memory, and this only for such a call; own.
     pub fn room(&self, alloc: Global, plan: Plan, call: &Call) -> Result<Numbers, NoMemory>
         ensures room { IfOk result (λ numbers. numbers
             ≡ record { items = []; room = room_of plan call.now }) }
         ensures err { IsErr result → room_of plan call.now ≢ 0 }
     {
         match plan {
-            Plan::Query => room_for_list(alloc, call),
+            Plan::Query | Plan::Ask => room_for_list(alloc, call),
             _ => Ok(Numbers::none(alloc)),
         }
     }
 
-    /// What a call other than ReadPixels replies, as the private state shows it just before the call; the numbers of a
-    /// list go into the room for them. It takes no memory (sections 2.5 and 6.1).
-    pub fn reply(&self, plan: Plan, call: &Call, _event: &EventReply, room: Numbers) -> Reply
+    /// What a call other than ReadPixels replies, as the private state shows it just before the call, its event having given
+    /// this back; the numbers of a list go into the room for them. It takes no memory (sections 2.5, 2.9, 3.7.11 and 6.1).
+    pub fn reply(&self, plan: Plan, call: &Call, event: &EventReply, room: Numbers) -> Reply
         requires plan { plan ≡ plan_of self.now call.now }
         requires empty { room.items ≡ [] }
         requires room { room_of plan call.now ≤ room.room }
-        ensures { replied result ≡ private_reply (fault_in plan) self.now call.now
-            (event_replied _event.now) }
+        requires names { length event.now.names ≤ room_of plan call.now }
+        ensures { replied result ≡ private_reply (fault_in plan) self.now call.now event.now }
     {
         match plan {
             Plan::Known(number) => Reply::One(number),
-            Plan::Query => self.answer(call, room),
+            Plan::Query | Plan::Ask => self.answer(call, event, room),
             _ => Reply::Nothing,
         }
     }
 
-    /// Takes the step of a call with its plan on a memory: an error is recorded, and nothing else is done (section 2.5).
-    pub fn finish<M: Memory>(&mut self, plan: Plan, call: &Call, memory: &M, _event: &EventReply)
+    /// Takes the step of a call with its plan on a memory: an error is recorded, and nothing else is done (section 2.5). What its
+    /// event was refused for, if it made one, is recorded after it (section 2.9).
+    pub fn finish<M: Memory>(
+        &mut self,
+        plan: Plan,
+        call: &Call,
+        memory: &M,
+        refused: Option<GlError>,
+    )
         requires plan { plan ≡ plan_of self.old call.now }
         ensures { self.new ≡ private_after (fault_in plan) self.old call.now
-            (M.segments memory.now) (event_replied _event.now) }
+            (M.segments memory.now) refused }
     {
         match plan {
             Plan::Fault(error) => self.note_error(error),
-            Plan::Query => self.forget_error(call),
-            Plan::Local => self.set(call, memory),
-            _ => {}
+            Plan::Query => {
+                self.forget_error(call);
+                self.note_refused(refused);
+            }
+            Plan::Ask | Plan::Local => {
+                self.set(call, memory);
+                self.note_refused(refused);
+            }
+            _ => self.note_refused(refused),
+        }
+    }
+
+    /// Records what an event was refused for, if it was (sections 2.5 and 2.9).
+    fn note_refused(&mut self, refused: Option<GlError>)
+        ensures { self.new ≡ record self.old { error = recorded_by self.old.error refused } }
+    {
+        match refused {
+            Some(fault) => self.note_error(fault),
+            None => {}
         }
     }
 
@@ -266,14 +277,13 @@ impl Private {
         }
     }
 
-    /// Sets what a call without an error sets that is no query.
+    /// Sets what a call without an error sets that is no query, where no event is refused.
     fn set<M: Memory>(&mut self, call: &Call, memory: &M)
         requires no_fault { fault_of self.old.tracked call.now ≡ None }
         requires no_query { plan_by None call.now ≢ Plan.Query }
-        ensures { (event : EventReplied) → self.new
-            ≡ private_after None self.old call.now (M.segments memory.now) event }
+        ensures { self.new ≡ private_after None self.old call.now (M.segments memory.now) None }
     {
-        self.settings.set(&self.tracked, call);
+        self.settings.set(&self.tracked, call, memory);
         // Before `note`: which stack is current, and that it has room, is what tracked state says before the call.
         self.stacks.set(&self.tracked, call, memory);
         self.tracked.note(call, memory, None);
@@ -293,11 +303,12 @@ fn room_for_list(alloc: Global, call: &Call) -> Result<Numbers, NoMemory>
     Numbers::new(alloc, count)
 }
 
-/// How many numbers a call without an error replies as a list, 0 where it replies one number or nothing.
+/// The most numbers that a call without an error replies as a list, 0 where it replies one number or nothing.
 fn list_length(call: &Call) -> u64
     ensures { result ≡ list_length call.now }
 {
     match call {
+        Call::GenBuffers { n, .. } | Call::GenTextures { n, .. } => u64::from(count_of(*n)),
         Call::GetFixedv { pname, .. } => fixed_length(*pname),
         Call::GetIntegerv { pname, .. } => integers_length(*pname),
         _ => 0,
@@ -322,21 +333,5 @@ fn integers_length(name: u32) -> u64
     match name {
         0x0BA2 | 0x0C10 => 4,
         _ => 0,
-    }
-}
-
-/// How a call without an error is carried out that asks for no number of tracked state.
-fn plan_without_fault(call: &Call) -> Plan
-    ensures { result ≡ plan_by None call.now }
-{
-    match call {
-        Call::Clear { .. } | Call::DrawArrays { .. } => Plan::Draw,
-        Call::ReadPixels { .. } => Plan::Read,
-        Call::GetError
-        | Call::GetFixedv { .. }
-        | Call::GetIntegerv { .. }
-        | Call::GetPointerv { .. }
-        | Call::IsEnabled { .. } => Plan::Query,
-        _ => Plan::Local,
     }
 }

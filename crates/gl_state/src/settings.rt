@@ -5,10 +5,12 @@ ghost use Rattle.gl_memory.specs.Segment.{Segment};
 ghost use Rattle.fragment_ops.specs.Frame.{AreSides};
 ghost use Rattle.fragment_ops.specs.State.{number_at, AreWithinOne, IsWithinOne};
 ghost use Rattle.gl_tracked.specs.declared.tracked.Tracked.{Tracked};
-ghost use Rattle.gl_state.specs.Settings.{clamped_origin, clamped_side, clamped_to_one, clamped_within, first_capabilities, first_settings, place_of_unit, with_capability, AreAccepted, AreClamped, IsViewport};
+ghost use Rattle.gl_tracked.specs.Names.{names_at};
+ghost use Rattle.gl_state.specs.Settings.{clamped_origin, clamped_side, clamped_to_one, clamped_within, first_capabilities, first_settings, place_of_unit, with_capability, without_textures, AreAccepted, AreClamped, IsViewport};
 ghost use Rattle.gl_state.specs.Step.{is_current, is_of_frame, is_of_primitives, is_of_tests, settings_set_by};
 
-use gl_tracked::Tracked;
+use gl_memory::Memory;
+use gl_tracked::{Tracked, binding_after, count_of, name_at};
 use gl_words::Call;
 
 /// Which capabilities are enabled (chapters 2 to 4).
@@ -144,11 +146,11 @@ impl Settings {
         }
     }
 
-    /// Sets what a call without an error sets.
-    #[tactic(auto, unfolding(crate::specs::Step::settings_set_by))]
-    pub(crate) fn set(&mut self, tracked: &Tracked, call: &Call)
-        ensures set { (memory : List Segment) → self.new
-            ≡ settings_set_by tracked.now self.old call.now memory }
+    /// Sets what a call without an error sets on a memory.
+    #[tactic(auto, unfolding(crate::specs::Step::settings_set_by, crate::specs::Settings::without_textures))]
+    pub(crate) fn set<M: Memory>(&mut self, tracked: &Tracked, call: &Call, memory: &M)
+        ensures set { self.new
+            ≡ settings_set_by tracked.now self.old call.now (M.segments memory.now) }
         ensures clamped { AreClamped self.old → AreClamped self.new }
     {
         match call {
@@ -168,6 +170,12 @@ impl Settings {
             | Call::ClearDepthx { .. }
             | Call::ColorMask { .. }
             | Call::DepthMask { .. } => self.set_frame(call),
+            Call::BindTexture { texture, .. } => {
+                self.bindings[place_of_unit(tracked.active)] = *texture;
+            }
+            Call::DeleteTextures { n, names } => {
+                self.delete_textures(*names, count_of(*n), memory);
+            }
             Call::Disable { cap } => {
                 self.capabilities
                     .set(place_of_unit(tracked.active), *cap, false);
@@ -178,6 +186,27 @@ impl Settings {
             }
             _ => {}
         }
+    }
+
+    /// Forgets the bindings of so many textures, whose names lie from a place of memory on (section 3.7.11).
+    fn delete_textures<M: Memory>(&mut self, names: u32, count: u32, memory: &M)
+        ensures { self.new
+            ≡ without_textures (names_at (M.segments memory.now) names count) self.old }
+    {
+        for number in 0..count {
+            self.delete_texture(name_at(memory, names, number));
+        }
+    }
+
+    /// Forgets the bindings of a texture (section 3.7.11).
+    #[tactic(auto, unfolding(crate::specs::Settings::without_textures))]
+    fn delete_texture(&mut self, name: u32)
+        ensures { self.new ≡ without_textures (name ∷ []) self.old }
+    {
+        self.bindings = [
+            binding_after(name, self.bindings[0]),
+            binding_after(name, self.bindings[1]),
+        ];
     }
 
     /// Sets a value that vertices take where no array has one (section 2.7).
