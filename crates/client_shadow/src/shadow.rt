@@ -1,6 +1,6 @@
 //! The tracked state of a context, as the layer knows it. It never sees a driver, and takes no memory.
 
-ghost use Rattle.std.specs.Prelude.{◌≡◌, ◌≢◌, ◌≤◌, ◌↔◌, ℕ, List, [], None, IsNone, length};
+ghost use Rattle.std.specs.Prelude.{◌≡◌, ◌≢◌, ◌≤◌, ◌↔◌, ◌||◌, ℕ, List, [], None, IsNone, length};
 ghost use Rattle.gl_words.specs.Call.{is_answering, IsInRange};
 ghost use Rattle.gl_words.specs.Table.{IsRowOf};
 ghost use Rattle.gl_memory.specs.Segment.{Segment};
@@ -10,12 +10,15 @@ ghost use Rattle.gl_tracked.specs.Step.{number_asked, tracked_after};
 ghost use Rattle.gl_tracked.specs.Tracked.{first_tracked, IsSound};
 ghost use Rattle.batch_pack.specs.Spelling.{slots_of};
 ghost use Rattle.client_shadow.specs.declared.class.Class.TheVariants.{Answer};
-ghost use Rattle.client_shadow.specs.Class.{captured_for, class_of, class_unasked, is_finish, pieces_of, pieces_without_fault};
+ghost use Rattle.client_shadow.specs.Class.{captured_for, class_of, class_unasked, is_finish, pieces_of, pieces_without_fault, waits};
 ghost use Rattle.client_shadow.specs.Look.{Captures, HasHeading, asks_in, class_in, number_in};
 
 use crate::class::Class;
 use crate::look::{Becomes, Look};
-use array_capture::{pieces_of_draw, pieces_of_matrix};
+use array_capture::{
+    pieces_of_bytes, pieces_of_data, pieces_of_draw, pieces_of_elements, pieces_of_matrix,
+    pieces_of_names,
+};
 use batch_pack::heading_of;
 use gl_memory::{ClientMemory, Pieces};
 use gl_tracked::{Finding, Tracked};
@@ -93,6 +96,19 @@ impl Shadow {
         }
     }
 
+    /// Whether a call waits for all before it though it asks for nothing, given its error (sections 2.9 and 5.1, what can't be
+    /// captured own).
+    #[tactic(auto, unfolding(crate::specs::Class::waits))]
+    fn waits(&self, call: &Call, fault: Option<GlError>) -> bool
+        requires fault { fault ≡ fault_of self.now call.now }
+        ensures { result ≡ waits self.now call.now }
+    {
+        match fault {
+            Some(_) => is_finish(call),
+            None => is_finish(call) || self.tracked.reads_all(call),
+        }
+    }
+
     /// What becomes of a call that asks for no number of tracked state, given its error. For one that waits in any case no pieces
     /// are looked for and no slots are counted.
     #[tactic(auto, unfolding(crate::specs::Class::captured_for))]
@@ -109,7 +125,7 @@ impl Shadow {
         requires fault { fault ≡ fault_of self.now call.now }
         requires few { length row.now.kinds.now ≤ 9 }
         requires empty { pieces.old ≡ [] }
-        ensures class { class_in result ≡ class_unasked call.now
+        ensures class { class_in result ≡ class_unasked call.now (waits self.now call.now)
             (slots_of (captured_for self.now call.now (memory_of memory.now))) slots }
         ensures number { number_in result ≡ None }
         ensures pieces { Captures result pieces.new
@@ -117,7 +133,7 @@ impl Shadow {
         ensures heading { HasHeading result call.now pieces.new memory.now }
         ensures asks { asks_in result ≡ is_answering call.now }
     {
-        if row.answering || is_finish(call) {
+        if row.answering || self.waits(call, fault) {
             return Becomes::Sync {
                 asks: row.answering,
             };
@@ -169,8 +185,8 @@ fn find_pieces(
     }
 }
 
-/// Puts the pieces of client memory for a call without an error into an empty list (sections 2.8 and 2.10.2). Only a draw and
-/// a matrix touch it.
+/// Puts the pieces of client memory for a call without an error into an empty list (sections 2.8, 2.9, 2.10.2 and 3.7.11).
+/// Only draws, matrices, uploads and deletions touch it.
 #[tactic(auto, unfolding(crate::specs::Class::pieces_without_fault))]
 fn find_pieces_without_fault(
     tracked: &Tracked,
@@ -183,8 +199,25 @@ fn find_pieces_without_fault(
     ensures { pieces.new ≡ pieces_without_fault tracked.now call.now (memory_of memory.now) }
 {
     match call {
+        Call::BufferData { size, source, .. } => {
+            *pieces = pieces_of_data(*source, *size, memory);
+        }
+        Call::BufferSubData { size, source, .. } => {
+            *pieces = pieces_of_bytes(*source, *size, memory);
+        }
+        Call::DeleteBuffers { n, names } | Call::DeleteTextures { n, names } => {
+            *pieces = pieces_of_names(*names, *n, memory);
+        }
         Call::DrawArrays { first, count, .. } => {
             *pieces = pieces_of_draw(tracked, *first, *count, memory);
+        }
+        Call::DrawElements {
+            count,
+            kind,
+            indices,
+            ..
+        } => {
+            *pieces = pieces_of_elements(tracked, *count, *kind, *indices, memory);
         }
         Call::LoadMatrixx { matrix } | Call::MultMatrixx { matrix } => {
             *pieces = pieces_of_matrix(*matrix, memory);

@@ -1,6 +1,6 @@
 //! Each public call once, and the law at the test driver through its bound.
 
-use client_shadow::laws::shadow_law;
+use client_shadow::laws::{capture_law, shadow_law};
 use client_shadow::*;
 use driver_trait::{Driver, Recorder, Reply};
 use gl_memory::{ClientMemory, Pieces};
@@ -41,10 +41,12 @@ fn number_in(reply: &Reply) -> Option<i64> {
     }
 }
 
-// Another program answers so to these gets, in this order. The second, the sixth and the seventeenth call have an error.
+// Another program answers so to these gets, in this order. The second, the sixth and the seventeenth call have an error. The
+// names that are deleted are 5 and 7.
 #[test]
 fn a_shadow_answers_as_the_driver_does(rt: HostRuntime) -> Result<(), Fail> {
-    let memory = ClientMemory::new(rt.alloc(), 0)?;
+    let mut memory = ClientMemory::new(rt.alloc(), 12)?;
+    memory.write(4, &[5, 0, 0, 0, 7, 0, 0, 0]);
     let mut recorder = Recorder::new(rt.alloc());
     let mut shadow = Shadow::new();
     let value = Some(GlError::InvalidValue);
@@ -72,6 +74,17 @@ fn a_shadow_answers_as_the_driver_does(rt: HostRuntime) -> Result<(), Fail> {
         ("PixelStorei", [0x0D05, 8].as_slice(), None, None),
         ("GetIntegerv", [0x0D05, 0].as_slice(), Some(8), None),
         ("GetIntegerv", [0x0CF5, 0].as_slice(), Some(4), None),
+        ("BindBuffer", [0x8892, 5].as_slice(), None, None),
+        ("BindBuffer", [0x8893, 7].as_slice(), None, None),
+        ("ColorPointer", [4, 0x1401, 0, 9].as_slice(), None, None),
+        ("GetIntegerv", [0x8898, 0].as_slice(), Some(5), None),
+        ("DeleteTextures", [2, 4].as_slice(), None, None),
+        ("DeleteBuffers", [257, 4].as_slice(), None, value),
+        ("GetIntegerv", [0x8894, 0].as_slice(), Some(5), None),
+        ("DeleteBuffers", [1, 4].as_slice(), None, None),
+        ("GetIntegerv", [0x8894, 0].as_slice(), Some(0), None),
+        ("GetIntegerv", [0x8898, 0].as_slice(), Some(0), None),
+        ("GetIntegerv", [0x8895, 0].as_slice(), Some(7), None),
     ];
     for (name, numbers, number, fault) in rows {
         let Some(call) = call_named(name, numbers) else {
@@ -89,7 +102,7 @@ fn a_shadow_answers_as_the_driver_does(rt: HostRuntime) -> Result<(), Fail> {
     Ok(())
 }
 
-// Another program counts 5 of these calls as put off, 8 that waited and 4 that were answered at once.
+// Another program counts 12 of these calls as put off, 12 that waited and 4 that were answered at once.
 #[test]
 fn each_kind_of_call_has_its_class(rt: HostRuntime) -> Result<(), Fail> {
     let memory = ClientMemory::new(rt.alloc(), 64)?;
@@ -113,6 +126,21 @@ fn each_kind_of_call_has_its_class(rt: HostRuntime) -> Result<(), Fail> {
         ("Flush", [].as_slice(), Class::Defer),
         ("VertexPointer", [3, 0x1400, 0, 0].as_slice(), Class::Defer),
         ("Clear", [0x4000].as_slice(), Class::Defer),
+        ("GenBuffers", [2, 0].as_slice(), Class::Sync),
+        ("GenTextures", [2, 0].as_slice(), Class::Sync),
+        ("IsBuffer", [1].as_slice(), Class::Sync),
+        ("IsTexture", [0].as_slice(), Class::Sync),
+        ("BindBuffer", [0x8892, 0].as_slice(), Class::Defer),
+        ("BindTexture", [0x0DE1, 1].as_slice(), Class::Defer),
+        (
+            "BufferData",
+            [0x8892, 4, 0, 0x88E4].as_slice(),
+            Class::Defer,
+        ),
+        ("BufferSubData", [0x8892, 0, 4, 0].as_slice(), Class::Defer),
+        ("DeleteBuffers", [1, 0].as_slice(), Class::Defer),
+        ("DeleteTextures", [1, 0].as_slice(), Class::Defer),
+        ("DrawElements", [4, 3, 0x1401, 0].as_slice(), Class::Defer),
     ];
     for (name, numbers, class) in rows {
         let Some(call) = call_named(name, numbers) else {
@@ -127,7 +155,7 @@ fn each_kind_of_call_has_its_class(rt: HostRuntime) -> Result<(), Fail> {
 }
 
 // A spelling has a header and a slot for each argument, and two slots and one for each eight bytes of a piece. Each vertex
-// here has 16 bytes, and memory ends within the fifth.
+// here has 16 bytes, and memory ends within the fifth. Indices are 0.
 #[test]
 fn a_call_longer_than_a_batch_waits(rt: HostRuntime) -> Result<(), Fail> {
     let memory = ClientMemory::new(rt.alloc(), 68)?;
@@ -144,6 +172,14 @@ fn a_call_longer_than_a_batch_waits(rt: HostRuntime) -> Result<(), Fail> {
         ("LoadMatrixx", [4].as_slice(), 12),
         ("MultMatrixx", [20].as_slice(), 10),
         ("MultMatrixx", [68].as_slice(), 2),
+        ("DrawElements", [4, 2, 0x1401, 60].as_slice(), 12),
+        ("DrawElements", [4, 9, 0x1403, 48].as_slice(), 14),
+        ("DeleteTextures", [3, 4].as_slice(), 7),
+        ("BufferData", [0x8892, 16, 4, 0x88E4].as_slice(), 5),
+        ("BindBuffer", [0x8892, 5].as_slice(), 3),
+        ("BufferData", [0x8892, 16, 4, 0x88E4].as_slice(), 9),
+        ("BufferData", [0x8892, 16, 0, 0x88E4].as_slice(), 5),
+        ("BufferSubData", [0x8892, 0, 16, 60].as_slice(), 8),
     ];
     for (name, numbers, slots) in rows {
         let Some(call) = call_named(name, numbers) else {
@@ -151,7 +187,10 @@ fn a_call_longer_than_a_batch_waits(rt: HostRuntime) -> Result<(), Fail> {
         };
         let look = shadow.look(&call, &memory, slots, &mut Pieces::new());
         assert_eq!(rt; look.becomes.class(), Class::Defer);
-        assert_eq!(rt; shadow.class(&call, &memory, slots - 1), Class::Sync);
+        assert_eq!(rt;
+            shadow.class(&call, &memory, slots.saturating_sub(1)),
+            Class::Sync
+        );
         shadow.note(&call, &memory, look.fault);
     }
     Ok(())
@@ -168,10 +207,11 @@ fn places_of(pieces: &Pieces) -> [Option<(u64, u64)>; 5] {
 }
 
 // Another program spells each of these calls, in this order, with these pieces. Memory ends at 200; the draws without a piece
-// after the first of colours are past it, of no elements, or have an error.
+// after the first of colours are past it, of no elements, or have an error. The indices at 150 are 4, 2 and 3.
 #[test]
-fn a_draw_and_a_matrix_are_put_off_with_their_pieces(rt: HostRuntime) -> Result<(), Fail> {
-    let memory = ClientMemory::new(rt.alloc(), 200)?;
+fn what_reads_memory_is_put_off_with_its_pieces(rt: HostRuntime) -> Result<(), Fail> {
+    let mut memory = ClientMemory::new(rt.alloc(), 200)?;
+    memory.write(150, &[4, 2, 3]);
     let mut shadow = Shadow::new();
     let rows = [
         ("DrawArrays", [4, 0, 3].as_slice(), [].as_slice()),
@@ -220,6 +260,64 @@ fn a_draw_and_a_matrix_are_put_off_with_their_pieces(rt: HostRuntime) -> Result<
         ("EnableClientState", [0x8074].as_slice(), [].as_slice()),
         ("DisableClientState", [0x8076].as_slice(), [].as_slice()),
         ("DrawArrays", [6, 2, 1].as_slice(), [(20, 2)].as_slice()),
+        (
+            "DrawElements",
+            [4, 3, 0x1401, 150].as_slice(),
+            [(20, 6), (150, 3)].as_slice(),
+        ),
+        (
+            "DrawElements",
+            [4, 1, 0x1403, 151].as_slice(),
+            [(151, 2)].as_slice(),
+        ),
+        (
+            "DrawElements",
+            [4, 3, 0x1402, 150].as_slice(),
+            [].as_slice(),
+        ),
+        ("DeleteTextures", [2, 96].as_slice(), [(96, 8)].as_slice()),
+        (
+            "BufferData",
+            [0x8892, 8, 100, 0x88E4].as_slice(),
+            [].as_slice(),
+        ),
+        ("BindBuffer", [0x8892, 5].as_slice(), [].as_slice()),
+        (
+            "BufferData",
+            [0x8892, 8, 196, 0x88E4].as_slice(),
+            [(196, 4)].as_slice(),
+        ),
+        (
+            "BufferSubData",
+            [0x8892, 3, 2, 0].as_slice(),
+            [(0, 2)].as_slice(),
+        ),
+        (
+            "DrawElements",
+            [4, 3, 0x1401, 150].as_slice(),
+            [(20, 6), (150, 3)].as_slice(),
+        ),
+        ("BindBuffer", [0x8893, 7].as_slice(), [].as_slice()),
+        (
+            "DrawElements",
+            [4, 0, 0x1401, 150].as_slice(),
+            [].as_slice(),
+        ),
+        (
+            "DrawElements",
+            [4, -1, 0x1401, 150].as_slice(),
+            [].as_slice(),
+        ),
+        (
+            "VertexPointer",
+            [2, 0x1400, 0, 16].as_slice(),
+            [].as_slice(),
+        ),
+        (
+            "DrawElements",
+            [4, 3, 0x1401, 150].as_slice(),
+            [].as_slice(),
+        ),
     ];
     for (name, numbers, pieces) in rows {
         let Some(call) = call_named(name, numbers) else {
@@ -232,6 +330,42 @@ fn a_draw_and_a_matrix_are_put_off_with_their_pieces(rt: HostRuntime) -> Result<
         for at in 0..5 {
             assert_eq!(rt; places[at], pieces.get(at).copied());
         }
+        shadow.note(&call, &memory, look.fault);
+    }
+    capture_law();
+    Ok(())
+}
+
+// By another program.
+#[test]
+fn a_draw_by_indices_in_a_buffer_waits_beside_an_array_in_client_memory(
+    rt: HostRuntime,
+) -> Result<(), Fail> {
+    let memory = ClientMemory::new(rt.alloc(), 200)?;
+    let mut shadow = Shadow::new();
+    let draw = [4, 3, 0x1401, 0].as_slice();
+    let rows = [
+        ("BindBuffer", [0x8893, 7].as_slice(), Class::Defer),
+        ("DrawElements", draw, Class::Defer),
+        ("EnableClientState", [0x8074].as_slice(), Class::Defer),
+        ("DrawElements", draw, Class::Sync),
+        ("DrawElements", [4, 0, 0x1401, 0].as_slice(), Class::Defer),
+        ("DrawElements", [7, 3, 0x1401, 0].as_slice(), Class::Defer),
+        ("DrawArrays", [4, 0, 3].as_slice(), Class::Defer),
+        ("BindBuffer", [0x8892, 5].as_slice(), Class::Defer),
+        ("VertexPointer", [2, 0x1400, 0, 0].as_slice(), Class::Defer),
+        ("DrawElements", draw, Class::Defer),
+        ("EnableClientState", [0x8075].as_slice(), Class::Defer),
+        ("DrawElements", draw, Class::Sync),
+        ("BindBuffer", [0x8893, 0].as_slice(), Class::Defer),
+        ("DrawElements", draw, Class::Defer),
+    ];
+    for (name, numbers, class) in rows {
+        let Some(call) = call_named(name, numbers) else {
+            return Err(Fail::new("no such call"));
+        };
+        let look = shadow.look(&call, &memory, 1024, &mut Pieces::new());
+        assert_eq!(rt; look.becomes.class(), class);
         shadow.note(&call, &memory, look.fault);
     }
     Ok(())

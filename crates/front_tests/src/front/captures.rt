@@ -21,8 +21,18 @@ fn draw(mode: u32, first: i32, count: i32) -> Call {
     Call::DrawArrays { mode, first, count }
 }
 
+/// DrawElements of triangles, by indices of this type at this place.
+fn elements(count: i32, kind: u32, indices: u32) -> Call {
+    Call::DrawElements {
+        mode: 4,
+        count,
+        kind,
+        indices,
+    }
+}
+
 // Worked by hand: the place of a byte is one below its number, vertices have two bytes from the place 4 on, and what isn't
-// captured is 0. The last two have an error.
+// captured is 0. By the indices 1 and 2 the bytes from 7 on are read. The last four have an error.
 #[test]
 fn a_driver_is_handed_the_bytes_that_a_call_was_issued_on(rt: HostRuntime) -> Result<(), Fail> {
     let rows = [
@@ -47,9 +57,27 @@ fn a_driver_is_handed_the_bytes_that_a_call_was_issued_on(rt: HostRuntime) -> Re
             [0, 0, 0, 0, 0, 0, 0, 0, 0, 10, 11, 12, 13, 14, 15, 16],
         ),
         (Call::LoadMatrixx { matrix: 16 }, [0; 16]),
+        (
+            elements(2, 0x1401, 0),
+            [1, 2, 0, 0, 0, 0, 7, 8, 9, 10, 0, 0, 0, 0, 0, 0],
+        ),
+        (
+            elements(1, 0x1403, 15),
+            [0, 0, 0, 0, 0, 0, 0, 0, 0, 0, 0, 0, 0, 0, 0, 16],
+        ),
+        (
+            Call::DeleteTextures { n: 2, names: 6 },
+            [0, 0, 0, 0, 0, 0, 7, 8, 9, 10, 11, 12, 13, 14, 0, 0],
+        ),
+        (
+            Call::DeleteBuffers { n: 1, names: 14 },
+            [0, 0, 0, 0, 0, 0, 0, 0, 0, 0, 0, 0, 0, 0, 15, 16],
+        ),
         (draw(4, 0, 0), [0; 16]),
         (draw(4, -1, 3), [0; 16]),
         (draw(7, 0, 3), [0; 16]),
+        (elements(-1, 0x1401, 0), [0; 16]),
+        (Call::DeleteBuffers { n: 257, names: 0 }, [0; 16]),
     ];
     for (call, seen) in rows {
         let mut maker = InlineMaker::new();
