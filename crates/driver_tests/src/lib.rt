@@ -2,6 +2,10 @@
 #![tactic(auto)]
 
 #[cfg(test)]
+mod book;
+#[cfg(test)]
+mod events;
+#[cfg(test)]
 mod soft;
 #[cfg(test)]
 mod soft_draw;

@@ -1,14 +1,34 @@
 //! The driver through its bound, and the laws at it. Values are those of another program, and names stand as their numbers.
 
+ghost use Rattle.std.specs.Prelude.{◌<◌};
+ghost use Rattle.fragment_ops.specs.Frame.{AreSides};
+
 use driver_trait::laws::{answers_law, follows_law, reads_alone_law, replies_law};
 use driver_trait::{Driver, Recorder, Reply};
 use gl_memory::ClientMemory;
+use gl_objects::Objects;
 use gl_words::{Call, call_from, call_id, shape_of_name};
 use soft_driver::Soft;
 use std::alloc::{AllocError as NoMemory, Global};
 use std::sync::Wait;
 use std::test::Fail;
 use std::thread::Threads;
+
+/// A context of this number and these sides, beside objects of its own.
+pub(crate) fn new_soft(
+    alloc: Global,
+    context: u32,
+    width: u32,
+    height: u32,
+) -> Result<Soft, NoMemory>
+    requires context { context < 4 }
+    requires sides { AreSides width height }
+{
+    match Soft::new(alloc, context, width, height, Objects::new(alloc)) {
+        Ok(soft) => Ok(soft),
+        Err((_, refused)) => Err(refused),
+    }
+}
 
 /// The number that is replied, or -1 where it is none or a list.
 fn told(reply: &Reply) -> i64 {
@@ -47,7 +67,7 @@ fn number_by_waiting<T: Threads + Sync, W: Wait, D: driver_trait::WaitDriver>(
 
 #[test]
 fn the_call_that_may_wait_replies_as_the_other(rt: HostRuntime) -> Result<(), Fail> {
-    let mut soft = Soft::new(rt.alloc(), 0, 1, 1)?;
+    let mut soft = new_soft(rt.alloc(), 0, 1, 1)?;
     let mut recorder = Recorder::new(rt.alloc());
     let rows = [
         (Call::Clear { mask: 16384 }, -1),
@@ -70,7 +90,7 @@ fn the_call_that_may_wait_replies_as_the_other(rt: HostRuntime) -> Result<(), Fa
 
 #[test]
 fn the_laws_hold_of_both_drivers(rt: HostRuntime) -> Result<(), Fail> {
-    let mut soft = Soft::new(rt.alloc(), 3, 256, 256)?;
+    let mut soft = new_soft(rt.alloc(), 3, 256, 256)?;
     let mut recorder = Recorder::new(rt.alloc());
     assert_eq!(rt; number(&rt, rt.alloc(), &mut soft, &Call::GetError)?, 0);
     assert_eq!(rt;
@@ -84,7 +104,11 @@ fn the_laws_hold_of_both_drivers(rt: HostRuntime) -> Result<(), Fail> {
 const KINDS: &str = "\
 ActiveTexture 33985 : -1
 AlphaFuncx 519 0 : -1
+BindBuffer 34962 1 : -1
+BindTexture 3553 1 : -1
 BlendFunc 770 771 : -1
+BufferData 34962 4 0 35044 : -1
+BufferSubData 34962 0 4 0 : -1
 Clear 16384 : -1
 ClearColorx 65536 0 0 65536 : -1
 ClearDepthx 65536 : -1
@@ -93,23 +117,30 @@ Color4x 65536 0 0 65536 : -1
 ColorMask 1 1 1 1 : -1
 ColorPointer 4 5121 0 0 : -1
 CullFace 1029 : -1
+DeleteBuffers 1 0 : -1
+DeleteTextures 1 0 : -1
 DepthFunc 515 : -1
 DepthMask 1 : -1
 DepthRangex 0 65536 : -1
 Disable 2884 : -1
 DisableClientState 32884 : -1
 DrawArrays 4 0 0 : -1
+DrawElements 4 0 5121 0 : -1
 Enable 2929 : -1
 EnableClientState 32884 : -1
 Finish : -1
 Flush : -1
 FrontFace 2305 : -1
 Frustumx -65536 65536 -65536 65536 65536 131072 : -1
+GenBuffers 1 0 : -1
+GenTextures 1 0 : -1
 GetError : 0
 GetFixedv 2982 0 : -1
 GetIntegerv 2976 0 : 5888
 GetPointerv 32910 0 : 0
+IsBuffer 1 : 1
 IsEnabled 32884 : 1
+IsTexture 1 : 1
 LoadIdentity : -1
 LoadMatrixx 0 : -1
 MatrixMode 5888 : -1
@@ -151,7 +182,7 @@ pub(crate) fn call_spelled(spelling: &str) -> Option<Call> {
 // The calls come after a matrix was pushed; then two errors. 1281 is INVALID_VALUE.
 #[test]
 fn a_call_of_each_kind_is_carried_out(rt: HostRuntime) -> Result<(), Fail> {
-    let mut soft = Soft::new(rt.alloc(), 0, 2, 2)?;
+    let mut soft = new_soft(rt.alloc(), 0, 2, 2)?;
     assert_eq!(rt; number(&rt, rt.alloc(), &mut soft, &Call::PushMatrix)?, -1);
     let mut last = 0;
     for row in KINDS.lines() {
@@ -198,7 +229,7 @@ fn a_clear_gives_each_pixel_the_clear_colour(rt: HostRuntime) -> Result<(), Fail
         (0, 65536, [0, 0, 0, 0]),
     ];
     for (mask, red, pixel) in rows {
-        let mut soft = Soft::new(rt.alloc(), 0, 3, 2)?;
+        let mut soft = new_soft(rt.alloc(), 0, 3, 2)?;
         let colour = Call::ClearColorx {
             red,
             green: 0,
@@ -207,7 +238,7 @@ fn a_clear_gives_each_pixel_the_clear_colour(rt: HostRuntime) -> Result<(), Fail
         };
         number(&rt, rt.alloc(), &mut soft, &colour)?;
         number(&rt, rt.alloc(), &mut soft, &Call::Clear { mask })?;
-        let frame = soft.into_parts();
+        let frame = soft.into_parts().0;
         assert_eq!(rt; (frame.width(), frame.height()), (3, 2));
         assert_eq!(rt; frame.cells().len(), 6);
         for cell in frame.cells() {
@@ -220,14 +251,14 @@ fn a_clear_gives_each_pixel_the_clear_colour(rt: HostRuntime) -> Result<(), Fail
 #[test]
 fn a_context_starts_at_each_side(rt: HostRuntime) -> Result<(), Fail> {
     for side in 1..257u32 {
-        let wide = Soft::new(rt.alloc(), 0, side, 1)?.into_parts();
-        let high = Soft::new(rt.alloc(), 0, 1, side)?.into_parts();
+        let wide = new_soft(rt.alloc(), 0, side, 1)?.into_parts().0;
+        let high = new_soft(rt.alloc(), 0, 1, side)?.into_parts().0;
         assert_eq!(rt; (wide.width(), wide.height()), (side, 1));
         assert_eq!(rt; (high.width(), high.height()), (1, side));
         assert_eq!(rt; wide.cells().len(), side as usize);
         assert_eq!(rt; high.cells().len(), side as usize);
     }
-    let largest = Soft::new(rt.alloc(), 3, 256, 256)?.into_parts();
+    let largest = new_soft(rt.alloc(), 3, 256, 256)?.into_parts().0;
     assert_eq!(rt; largest.cells().len(), 65536);
     Ok(())
 }
@@ -315,7 +346,7 @@ fn corners_and_a_matrix(alloc: Global) -> Result<ClientMemory, NoMemory> {
 #[test]
 fn only_a_list_takes_memory(rt: HostRuntime) -> Result<(), Fail> {
     let memory = corners_and_a_matrix(rt.alloc())?;
-    let mut soft = Soft::new(rt.alloc(), 0, 2, 2)?;
+    let mut soft = new_soft(rt.alloc(), 0, 2, 2)?;
     for spelling in WITHOUT_LISTS.lines() {
         let Some(call) = call_spelled(spelling) else {
             return Err(Fail::new("no such call"));
@@ -323,9 +354,51 @@ fn only_a_list_takes_memory(rt: HostRuntime) -> Result<(), Fail> {
         let reply = soft.call(&rt, &call, &memory)?;
         assert!(rt; matches!(reply, Reply::Nothing | Reply::One(_)));
     }
-    assert_eq!(rt; soft.into_parts().pixel(0, 0), [255, 255, 0, 255]);
+    assert_eq!(rt; soft.into_parts().0.pixel(0, 0), [255, 255, 0, 255]);
     for _ in 0..63 {
         vec![in rt.alloc(); 0_u8; 1]?;
+    }
+    Ok(())
+}
+
+/// Bytes of stores up to their limit of 67108864, and a byte more; 2000 bytes of memory; parts up to the end of a store and
+/// past it; and as many names as one call may ask for. The number that is replied stands behind the colon, or how many numbers
+/// a list has.
+const LIMITS: &str = "\
+BindBuffer 34962 1 : -1
+BufferData 34962 67108864 0 35044 : -1
+GetError : 0
+BindBuffer 34962 2 : -1
+BufferData 34962 1 0 35044 : -1
+GetError : 1285
+BindBuffer 34962 1 : -1
+BufferData 34962 2000 16 35044 : -1
+BufferSubData 34962 1 1999 1 : -1
+GetError : 0
+BufferSubData 34962 2 1999 1 : -1
+GetError : 1281
+GenBuffers 256 1024 : 256
+GetError : 0
+IsBuffer 2 : 1
+GenTextures 256 1024 : 256
+";
+
+#[test]
+fn stores_and_names_reach_their_limits(rt: HostRuntime) -> Result<(), Fail> {
+    let memory = ClientMemory::new(rt.alloc(), 2048)?;
+    let mut soft = new_soft(rt.alloc(), 0, 2, 2)?;
+    for row in LIMITS.lines() {
+        let Some((spelling, reply)) = row.split_once(" : ") else {
+            return Err(Fail::new("no such row"));
+        };
+        let Some(call) = call_spelled(spelling) else {
+            return Err(Fail::new("no such call"));
+        };
+        let replied = match soft.call(&rt, &call, &memory)? {
+            Reply::Numbers(numbers) => numbers.as_slice().len() as i64,
+            reply => told(&reply),
+        };
+        assert_eq!(rt; reply.parse::<i64>().ok(), Some(replied), "{row}");
     }
     Ok(())
 }

@@ -1,10 +1,9 @@
 //! Frames that Clear and draws leave. The pictures are those of another program, and names stand as their numbers.
 
-use crate::soft::call_spelled;
+use crate::soft::{call_spelled, new_soft};
 use driver_trait::Driver;
 use fragment_ops::Frame;
 use gl_memory::ClientMemory;
-use soft_driver::Soft;
 use std::alloc::Global;
 use std::test::Fail;
 use std::thread::Threads;
@@ -19,14 +18,14 @@ fn frame_after<T: Threads + Sync>(
     calls: &str,
     memory: &ClientMemory,
 ) -> Result<Frame, Fail> {
-    let mut soft = Soft::new(alloc, 0, 4, 4)?;
+    let mut soft = new_soft(alloc, 0, 4, 4)?;
     for spelling in calls.lines() {
         let Some(call) = call_spelled(spelling) else {
             return Err(Fail::new("no such call"));
         };
         soft.call(rt, &call, memory)?;
     }
-    Ok(soft.into_parts())
+    Ok(soft.into_parts().0)
 }
 
 /// Whether a frame has a picture.

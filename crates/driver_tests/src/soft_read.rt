@@ -2,6 +2,7 @@
 
 ghost use Rattle.fragment_ops.specs.Frame.{AreSides};
 
+use crate::soft::new_soft;
 use driver_trait::{Driver, Reply};
 use gl_memory::ClientMemory;
 use gl_words::Call;
@@ -20,7 +21,7 @@ fn cleared<T: Threads + Sync>(
 ) -> Result<Soft, NoMemory>
     requires { AreSides width height }
 {
-    let mut soft = Soft::new(alloc, 0, width, height)?;
+    let mut soft = new_soft(alloc, 0, width, height)?;
     let colour = Call::ClearColorx {
         red: 32768,
         green: 65536,

@@ -1,15 +1,20 @@
 //! Calls carried out on private state, and what it then replies. The proofs speak of each step alone. Names stand as their
 //! numbers. What no comment says otherwise of is the value of another program.
 
+ghost use Rattle.std.specs.Prelude.{◌≡◌, ◌≤◌, [], IfSome};
+ghost use Rattle.gl_objects.specs.Event.{IsEvent};
+ghost use Rattle.gl_state.specs.Step.{plan_of, room_of};
+
 use driver_trait::Reply;
-use gl_memory::ClientMemory;
+use gl_memory::{ClientMemory, Numbers};
+use gl_objects::{Event, EventReply, Names, Objects};
 use gl_state::*;
 use gl_words::{Call, GlError, call_from, shape_of_name};
 use std::alloc::{AllocError as NoMemory, Global};
 use std::test::Fail;
 
 /// The integers that words spell, at most 16 of them, and how many they are.
-fn numbers_in(words: &str) -> ([i64; 16], usize) {
+pub(crate) fn numbers_in(words: &str) -> ([i64; 16], usize) {
     let mut numbers = [0_i64; 16];
     let mut count = 0_usize;
     for word in words.split_whitespace() {
@@ -24,23 +29,28 @@ fn numbers_in(words: &str) -> ([i64; 16], usize) {
 }
 
 /// The call that a name and integers spell, if there is one.
-fn call_spelled(spelling: &str) -> Option<Call> {
+pub(crate) fn call_spelled(spelling: &str) -> Option<Call> {
     let name = spelling.split_whitespace().next()?;
     let (numbers, count) = numbers_in(spelling);
     call_from(shape_of_name(name)?.id, numbers.get(..count)?)
 }
 
-/// Takes the step of a call.
-fn take_step(private: &mut Private, call: &Call, memory: &ClientMemory) {
-    let plan = private.plan(call);
-    private.finish(plan, call, memory, &EventReply);
-}
-
-/// What a call is replied.
-fn reply_to(alloc: Global, private: &Private, call: &Call) -> Result<Reply, NoMemory> {
-    let plan = private.plan(call);
-    let room = private.room(alloc, plan, call)?;
-    Ok(private.reply(plan, call, &EventReply, room))
+/// What objects give back to an event, and nothing where there is none.
+fn given_back(
+    alloc: Global,
+    objects: &mut Objects,
+    event: Option<Event>,
+) -> Result<EventReply, NoMemory>
+    requires legal { IfSome event IsEvent }
+{
+    match event {
+        Some(event) => objects.apply(&event),
+        None => Ok(EventReply {
+            fault: None,
+            names: Names::none(alloc),
+            truth: false,
+        }),
+    }
 }
 
 /// Whether a reply is these numbers: nothing where there are none, a number alone where there is one, else a list.
@@ -51,6 +61,57 @@ fn is_these(reply: &Reply, numbers: &[i64]) -> bool {
         Reply::Numbers(list) => numbers.len() > 1 && list.as_slice() == numbers,
         Reply::Bytes(_) => false,
     }
+}
+
+/// Whether names are these numbers.
+fn are_these(names: &[u32], numbers: &[i64]) -> bool {
+    if names.len() != numbers.len() {
+        return false;
+    }
+    for at in 0..names.len().min(numbers.len()) {
+        if i64::from(names[at]) != numbers[at] {
+            return false;
+        }
+    }
+    true
+}
+
+/// Whether a call is replied these numbers. Names are taken as objects gave them: how they become a reply is proved.
+fn is_told(
+    private: &Private,
+    plan: Plan,
+    call: &Call,
+    back: &EventReply,
+    room: Numbers,
+    numbers: &[i64],
+) -> bool
+    requires plan { plan ≡ plan_of private.now call.now }
+    requires empty { room.items ≡ [] }
+    requires room { room_of plan call.now ≤ room.room }
+{
+    if back.names.as_slice().is_empty() {
+        is_these(&private.reply(plan, call, back, room), numbers)
+    } else {
+        are_these(back.names.as_slice(), numbers)
+    }
+}
+
+/// Carries a call out on private state and a memory, beside objects, and tells whether these numbers are its reply.
+pub(crate) fn replies(
+    alloc: Global,
+    private: &mut Private,
+    objects: &mut Objects,
+    call: &Call,
+    memory: &ClientMemory,
+    numbers: &[i64],
+) -> Result<bool, NoMemory> {
+    let plan = private.plan(call);
+    let room = private.room(alloc, plan, call)?;
+    let event = private.event(alloc, plan, call, memory)?;
+    let back = given_back(alloc, objects, event)?;
+    let is_told = is_told(private, plan, call, &back, room, numbers);
+    private.finish(plan, call, memory, back.fault);
+    Ok(is_told)
 }
 
 /// Carries out calls as `first_wrong_on` does, on no memory.
@@ -67,6 +128,7 @@ fn first_wrong_on(
     rows: &str,
 ) -> Result<Option<usize>, NoMemory> {
     let mut private = Private::new(0, 5, 3);
+    let mut objects = Objects::new(alloc);
     for (at, row) in rows.lines().enumerate() {
         let Some((spelling, reply)) = row.split_once(':') else {
             return Ok(Some(at));
@@ -75,13 +137,10 @@ fn first_wrong_on(
             return Ok(Some(at));
         };
         let (numbers, count) = numbers_in(reply);
-        if !is_these(
-            &reply_to(alloc, &private, &call)?,
-            &numbers[..count.min(16)],
-        ) {
+        let numbers = &numbers[..count.min(16)];
+        if !replies(alloc, &mut private, &mut objects, &call, memory, numbers)? {
             return Ok(Some(at));
         }
-        take_step(&mut private, &call, memory);
     }
     Ok(None)
 }
@@ -289,11 +348,12 @@ MultiTexCoord4x 33986 1 1 1 1
 fn what_no_get_tells_is_kept(rt: HostRuntime) -> Result<(), Fail> {
     let memory = ClientMemory::new(rt.alloc(), 0)?;
     let mut private = Private::new(0, 5, 3);
+    let mut objects = Objects::new(rt.alloc());
     for spelling in UNTOLD.lines() {
         let Some(call) = call_spelled(spelling) else {
             return Err(Fail::new("no such call"));
         };
-        take_step(&mut private, &call, &memory);
+        replies(rt.alloc(), &mut private, &mut objects, &call, &memory, &[])?;
     }
     let settings = private.settings();
     assert_eq!(rt; settings.alpha_reference, 65536);
@@ -432,8 +492,15 @@ fn a_matrix_is_read_from_memory_by_columns(rt: HostRuntime) -> Result<(), Fail> 
 #[test]
 fn a_plan_has_all_that_is_found_of_a_call(rt: HostRuntime) -> Result<(), Fail> {
     let private = Private::new(0, 4, 4);
-    let rows: [(&str, Plan); 16] = [
+    let rows: [(&str, Plan); 20] = [
         ("Clear 16640", Plan::Draw),
+        ("DrawElements 4 3 5121 0", Plan::Draw),
+        ("BindBuffer 34962 0", Plan::Ask),
+        (
+            "BufferData 34962 1 0 35044",
+            Plan::Fault(GlError::InvalidOperation),
+        ),
+        ("IsTexture 1", Plan::Ask),
         ("DrawArrays 4 0 65536", Plan::Draw),
         ("DrawArrays 4 0 65537", Plan::Fault(GlError::InvalidValue)),
         ("LoadMatrixx 0", Plan::Local),
@@ -459,5 +526,54 @@ fn a_plan_has_all_that_is_found_of_a_call(rt: HostRuntime) -> Result<(), Fail> {
         };
         assert_eq!(rt; private.plan(&call), plan);
     }
+    Ok(())
+}
+
+/// Memory has 1 and 2 at address 0. 34962 and 34963 are the targets of buffers, 34964 and 34965 tell what is bound to them,
+/// and 32873 what is bound in the active unit.
+const NAMES: &str = "\
+GenBuffers 2 32 : 1 2
+IsBuffer 1 : 0
+BindBuffer 34962 2 :
+BindBuffer 34963 7 :
+IsBuffer 2 : 1
+IsBuffer 7 : 1
+GetIntegerv 34964 48 : 2
+GetIntegerv 34965 48 : 7
+BindTexture 3553 3 :
+ActiveTexture 33985 :
+GetIntegerv 32873 48 : 0
+BindTexture 3553 2 :
+GetIntegerv 32873 48 : 2
+IsTexture 2 : 1
+DeleteTextures 2 0 :
+IsTexture 2 : 0
+GetIntegerv 32873 48 : 0
+ActiveTexture 33984 :
+GetIntegerv 32873 48 : 3
+GenTextures 3 32 : 1 2 4
+DeleteBuffers 2 0 :
+IsBuffer 2 : 0
+IsBuffer 0 : 0
+GetIntegerv 34964 48 : 0
+GetIntegerv 34965 48 : 7
+BufferData 34962 4 0 35044 :
+GetError : 1282
+BufferData 34963 4 0 35044 :
+BufferSubData 34963 2 3 0 :
+GetError : 1281
+BufferSubData 34963 1 3 0 :
+GetError : 0
+GenBuffers 257 0 :
+GetError : 1281
+BindTexture 33984 1 :
+GetError : 1280
+";
+
+#[test]
+fn a_deleted_name_is_bound_nowhere_and_that_of_no_object(rt: HostRuntime) -> Result<(), Fail> {
+    let mut memory = ClientMemory::new(rt.alloc(), 64)?;
+    memory.write(0, &[1, 0, 0, 0, 2, 0, 0, 0]);
+    assert_eq!(rt; first_wrong_on(rt.alloc(), &memory, NAMES)?, None);
     Ok(())
 }

@@ -3,12 +3,12 @@ use Rattle.std.proofs.Common.{◌≡◌, ℕ, zero, suc, ◌<◌, ℤ, pos, ◌�
 use Rattle.std.specs.Prelude.{int_le}
 use Rattle.std.proofs.lemmas.Bool.{and_parts}
 use Rattle.std.proofs.lemmas.Int.{ints}
-use Rattle.gl_words.specs.declared.call.Call.TheVariants.{DrawArrays}
+use Rattle.gl_words.specs.declared.call.Call.TheVariants.{DrawArrays, DrawElements}
 use Rattle.gl_words.specs.declared.error.GlError.TheVariants.{InvalidEnum, InvalidValue}
 use Rattle.gl_tracked.specs.declared.tracked.ArrayState.{ArrayState}
 use Rattle.gl_tracked.specs.declared.tracked.Tracked.{Tracked}
-use Rattle.gl_tracked.specs.Enumerants.{modes}
-use Rattle.gl_tracked.specs.Fault.{fault_of, is_among, is_drawable}
+use Rattle.gl_tracked.specs.Enumerants.{index_types, modes}
+use Rattle.gl_tracked.specs.Fault.{fault_of, is_among, is_drawable, is_element_count}
 use Rattle.gl_tracked.specs.Tracked.{AreTwoArrays, IsArray}
 use Rattle.gl_tracked.proofs.Faults.{first_passed}
 
@@ -38,3 +38,18 @@ drawn_are_few tracked mode first count none =
     let mode_passed = first_passed (is_among modes mode) InvalidEnum _ none in
     let passed = first_passed (is_drawable first count) InvalidValue [] (mode_passed.1) in
     drawable-few first count (passed.0)
+
+elements-few : (count : ℤ) → is_element_count count ≡ true → count ≤ℤ pos 65536
+unfolding is_element_count
+elements-few count counted =
+    let few = and_parts (int_le (pos 0) count) (int_le count (pos 65536)) counted in
+    at_most count (pos 65536) (few.1)
+
+-- where DrawElements has no error, at most so many elements are drawn
+pub elements_are_few : (tracked : Tracked) (mode : ℕ) (count : ℤ) (kind indices : ℕ) → fault_of tracked (DrawElements mode count kind indices) ≡ None → count ≤ℤ pos 65536
+unfolding fault_of
+elements_are_few tracked mode count kind indices none =
+    let mode_passed = first_passed (is_among modes mode) InvalidEnum _ none in
+    let kind_passed = first_passed (is_among index_types kind) InvalidEnum _ (mode_passed.1) in
+    let passed = first_passed (is_element_count count) InvalidValue [] (kind_passed.1) in
+    elements-few count (passed.0)

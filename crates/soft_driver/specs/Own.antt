@@ -1,15 +1,24 @@
--- The own state of a context, and what a call does to it. No batch, slot, class or front stands here.
-use Rattle.std.specs.Prelude.{◌≡◌, ℕ, ◌+◌, ℤ, pos, negsuc, Bool, true, false, ◌==◌, nat_lt, bit_and, List, Option, Some, None}
+-- The own state of a context, and what a call does to it beside the objects that contexts share. What an event does to these stands in gl_objects; no batch, slot, class or front stands here.
+use Rattle.std.specs.Prelude.{◌≡◌, ℕ, ℤ, pos, negsuc, Bool, true, false, not, ◌==◌, nat_lt, bit_and, List, Option, Some, None}
 use Rattle.gl_words.specs.declared.call.Call.{Call}
-use Rattle.gl_words.specs.declared.call.Call.TheVariants.{Clear, DrawArrays, ReadPixels}
+use Rattle.gl_words.specs.declared.call.Call.TheVariants.{BindBuffer, BindTexture, BufferData, BufferSubData, Clear, DeleteBuffers, DeleteTextures, DrawArrays, DrawElements, GenBuffers, GenTextures, ReadPixels}
 use Rattle.gl_words.specs.declared.error.GlError.{GlError}
+use Rattle.gl_memory.specs.ClientMemory.{memory_of}
 use Rattle.gl_memory.specs.Segment.{Segment}
+use Rattle.gl_objects.specs.declared.event.Event.{Event}
+use Rattle.gl_objects.specs.declared.reply.EventReply.{EventReply}
+use Rattle.gl_objects.specs.Step.{reply_of, step}
+use Rattle.gl_objects.specs.Store.{store_in}
+use Rattle.gl_objects.specs.View.{ObjectsView}
 use Rattle.fragment_ops.specs.Cell.{cell_after_clear}
 use Rattle.fragment_ops.specs.Frame.{FrameView, first_frame, frame_changed}
 use Rattle.gl_tracked.specs.Fault.{fault_of}
+use Rattle.triangle_draw.specs.declared.elements.Elements.TheVariants.{From, Indexed}
 use Rattle.triangle_draw.specs.Draw.{cell_after_draw}
+use Rattle.triangle_draw.specs.Elements.{place_in}
+use Rattle.vertex_stage.specs.Number.{memories_with}
 use Rattle.driver_trait.specs.Reply.{Replied, Nothing, Bytes}
-use Rattle.gl_state.specs.Event.{EventReplied}
+use Rattle.gl_state.specs.Event.{event_by, no_reply}
 use Rattle.gl_state.specs.Private.{PrivateView, first_private}
 use Rattle.gl_state.specs.Settings.{fragment_state_of}
 use Rattle.gl_state.specs.Step.{list_length, private_after, private_reply}
@@ -43,37 +52,73 @@ abbrev pub number_of : ℤ → ℕ
 number_of (pos number) = number
 number_of (negsuc below) = 0
 
--- the frame after a call with this error, or none, on a memory, its event having given this back: Clear clears what its mask has a bit of, DrawArrays draws the elements from the first on, and no other call draws; sections 2.8 and 4.2.3. No call draws with what an event gave back yet
-abbrev pub frame_after : Option GlError → PrivateView → FrameView → Call → List Segment → EventReplied → FrameView
-frame_after (Some error) state frame call memory event = frame
-frame_after None state frame (Clear mask) memory event = frame_changed (λ place. cell_after_clear place (fragment_state_of state.settings) (clears_colour mask) (clears_depth mask)) frame
-frame_after None state frame (DrawArrays mode first count) memory event = frame_changed (cell_after_draw (drawing_of state) memory mode (λ number. number_of first + number) (number_of count)) frame
-frame_after None state frame _ memory event = frame
+-- the memories that a draw reads: client memory, and the stores of buffers by their names, which are zeros where there is no buffer, and past a store's end; sections 2.8 and 2.9, the zeros own
+unfoldable pub memories_of : ObjectsView → List Segment → ℕ → List Segment
+memories_of objects memory = memories_with memory (λ name. memory_of (store_in objects.buffers name))
+
+-- the frame after a call with this error, or none, on a memory and objects: Clear clears what its mask has a bit of, DrawArrays draws the elements from the first on, DrawElements those that its indices name, in the buffer that is bound for them or in client memory, and no other call draws; sections 2.8, 2.9 and 4.2.3
+abbrev pub frame_after : Option GlError → PrivateView → FrameView → ObjectsView → Call → List Segment → FrameView
+frame_after (Some error) state frame objects call memory = frame
+frame_after None state frame objects (Clear mask) memory =
+    frame_changed (λ place. cell_after_clear place (fragment_state_of state.settings) (clears_colour mask) (clears_depth mask)) frame
+frame_after None state frame objects (DrawArrays mode first count) memory =
+    let memories = memories_of objects memory in
+    frame_changed (cell_after_draw (drawing_of state) memories mode (place_in (From (number_of first)) memories) (number_of count)) frame
+frame_after None state frame objects (DrawElements mode count kind indices) memory =
+    let memories = memories_of objects memory in
+    frame_changed (cell_after_draw (drawing_of state) memories mode (place_in (Indexed state.tracked.element_buffer kind indices) memories) (number_of count)) frame
+frame_after None state frame objects _ memory = frame
 
 -- what a call replies with this error, or none, its event having given this back: ReadPixels the bytes of its pixels, all others what the private state shows; sections 2.5, 4.3.1 and 6.1
-abbrev pub own_reply : Option GlError → Own → Call → EventReplied → Replied
+abbrev pub own_reply : Option GlError → Own → Call → EventReply → Replied
 own_reply (Some error) own call event = Nothing
 own_reply None own (ReadPixels x y width height format kind pixels) event = Bytes (bytes_read own.frame x y (number_of width) (number_of height))
 own_reply None own call event = private_reply None own.state call event
+
+-- what objects give back to an event, and nothing where there is none; own
+abbrev pub given_back : ObjectsView → Option Event → EventReply
+given_back objects None = no_reply
+given_back objects (Some event) = reply_of objects event
+
+-- the objects after an event, and as they were where there is none; own
+abbrev pub objects_changed : ObjectsView → Option Event → ObjectsView
+objects_changed objects None = objects
+objects_changed objects (Some event) = step objects event
 
 -- what a step gives: the own state after a call, and its reply; own
 pub record Stepped : Type 0 where
   pub own : Own
   pub reply : Replied
 
--- the step of a call with this error, or none, on a memory, its event having given this back: each part by its own definition; sections 2.5 and 4.2.3
-abbrev pub own_step_by : Option GlError → Own → Call → List Segment → EventReplied → Stepped
-own_step_by fault own call memory event = record {
-  own = record { state = private_after fault own.state call memory event; frame = frame_after fault own.state own.frame call memory event };
-  reply = own_reply fault own call event;
+-- the step of a call with this error, or none, whose event gave this back, on a memory and objects as they stood before it: each part by its own definition; sections 2.5 and 4.2.3
+abbrev pub own_step_with : Option GlError → EventReply → Own → Call → List Segment → ObjectsView → Stepped
+own_step_with fault back own call memory objects = record {
+  own = record { state = private_after fault own.state call memory back.fault; frame = frame_after fault own.state own.frame objects call memory };
+  reply = own_reply fault own call back;
 }
 
--- the step of a call on a memory, its event having given this back: the error is that of the call; section 2.5
-unfoldable pub own_step : Own → Call → List Segment → EventReplied → Stepped
-own_step own call memory event = own_step_by (fault_of own.state.tracked call) own call memory event
+-- the step of a call with this error, or none, on a memory and objects: its event is asked of the objects first; own
+abbrev pub own_step_by : Option GlError → Own → Call → List Segment → ObjectsView → Stepped
+own_step_by fault own call memory objects = own_step_with fault (given_back objects (event_by fault own.state call memory)) own call memory objects
 
--- a call with this error, or none, replies a list, for which memory is asked: ReadPixels bytes, others more than one number; own
-abbrev pub replies_list : Option GlError → Call → Bool
-replies_list (Some error) call = false
-replies_list None (ReadPixels x y width height format kind pixels) = true
-replies_list None call = nat_lt 0 (list_length call)
+-- the event of a call on a memory, if it makes one: the error is that of the call; section 2.5
+unfoldable pub event_of : Own → Call → List Segment → Option Event
+event_of own call memory = event_by (fault_of own.state.tracked call) own.state call memory
+
+-- the step of a call on a memory and objects: the error is that of the call; section 2.5
+unfoldable pub own_step : Own → Call → List Segment → ObjectsView → Stepped
+own_step own call memory objects = own_step_by (fault_of own.state.tracked call) own call memory objects
+
+-- a call with this error, or none, may ask for memory: for a list that it replies, and for an event with bytes or names, or that makes an object or gives names; own
+abbrev pub asks_memory : Option GlError → Call → Bool
+asks_memory (Some error) call = false
+asks_memory None (BindBuffer target buffer) = not (buffer == 0)
+asks_memory None (BindTexture target texture) = not (texture == 0)
+asks_memory None (BufferData target size source usage) = true
+asks_memory None (BufferSubData target offset size source) = true
+asks_memory None (DeleteBuffers n names) = true
+asks_memory None (DeleteTextures n names) = true
+asks_memory None (GenBuffers n names) = true
+asks_memory None (GenTextures n names) = true
+asks_memory None (ReadPixels x y width height format kind pixels) = true
+asks_memory None call = nat_lt 0 (list_length call)
