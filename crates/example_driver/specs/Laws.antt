@@ -8,8 +8,10 @@ use Rattle.gl_words.specs.declared.error.GlError.{GlError}
 use Rattle.gl_memory.specs.Segment.{Segment}
 use Rattle.gl_tracked.specs.declared.tracked.Tracked.{Tracked}
 use Rattle.gl_tracked.specs.Fault.{fault_of}
-use Rattle.gl_tracked.specs.Step.{tracked_after, number_asked}
-use Rattle.gl_tracked.proofs.Stepping.{tracked_after-memory, tracked_after-asked, number_asked-unanswered}
+use Rattle.gl_tracked.specs.Reads.{AgreesOn}
+use Rattle.gl_tracked.specs.Step.{tracked_after, number_asked, reads_of}
+use Rattle.gl_tracked.proofs.Agreeing.{tracked_after-agrees}
+use Rattle.gl_tracked.proofs.Stepping.{tracked_after-asked, number_asked-unanswered}
 use Rattle.driver_trait.specs.Driver.{IsDriver, ReadsAlone, Follows, Answers, Replies}
 use Rattle.driver_trait.specs.Reply.{Replied, Nothing}
 use Rattle.example_driver.specs.declared.counter.Counter.{Counter}
@@ -61,14 +63,14 @@ counter_reply-unanswered : (fault : Option GlError) (st : Counter) (call : Call)
 counter_reply-unanswered (Some error) st call h = refl
 counter_reply-unanswered None st call h = answer_of-unanswered st call h
 
-counter_after-memory : (st : Counter) (call : Call) (m n : List Segment) → counter_after st call m ≡ counter_after st call n
-counter_after-memory st call m n =
+counter_after-agrees : (st : Counter) (call : Call) (m n : List Segment) → AgreesOn m n (reads_of st.tracked call m) → counter_after st call m ≡ counter_after st call n
+counter_after-agrees st call m n agree =
     let P : Tracked → Counter = λ tracked. record { tracked = tracked; recorded = recorded_after (fault_of st.tracked call) st.recorded call; clears = clears_after (fault_of st.tracked call) st.clears call } in
-    ap P (tracked_after-memory st.tracked call m n)
+    ap P (tracked_after-agrees st.tracked call m n agree)
 
 counter_carries_out : CarriesOut tracked_of counter_after counter_reply_to
 counter_carries_out = record {
-  alone = λ st call m n agree. counter_after-memory st call m n;
+  alone = λ st call m n agree. counter_after-agrees st call m n agree;
   table = λ st call memory. refl;
   silent = λ st call unanswered. counter_reply-unanswered (fault_of st.tracked call) st call unanswered;
 }

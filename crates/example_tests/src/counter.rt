@@ -12,13 +12,22 @@ use std::test::Fail;
 use std::thread::Threads;
 
 // Clears, of which the second has a bit outside its mask and so an error; tracked state, set and asked for; the count,
-// before and after; the error, twice; the size that isn't known.
+// before and after; the error, twice; an array that isn't enabled; a binding.
 const SCRIPT: &str = "glscript 1\ncontext 0 4 4 16\n0 Clear COLOR_BUFFER_BIT\n0 Clear 1\n\
     0 GetIntegerv MAX_TEXTURE_SIZE 0\n0 MatrixMode PROJECTION\n0 GetIntegerv MATRIX_MODE 4\n0 Clear 0x4000\n\
-    0 GetIntegerv MAX_TEXTURE_SIZE 8\n0 GetError\n0 GetError\n0 IsEnabled VERTEX_ARRAY\nend\n";
+    0 GetIntegerv MAX_TEXTURE_SIZE 8\n0 GetError\n0 GetError\n0 IsEnabled VERTEX_ARRAY\n\
+    0 BindBuffer ARRAY_BUFFER 7\n0 GetIntegerv ARRAY_BUFFER_BINDING 12\nend\n";
 
 /// What the numbers of SCRIPT's answers are, by line; worked by hand.
-const TOLD: [(u32, i64); 6] = [(5, 1), (7, 5889), (9, 2), (10, 1281), (11, 0), (12, 0)];
+const TOLD: [(u32, i64); 7] = [
+    (5, 1),
+    (7, 5889),
+    (9, 2),
+    (10, 1281),
+    (11, 0),
+    (12, 0),
+    (14, 7),
+];
 
 /// The line and the number of an answer, of which there is one alone.
 fn told_at(results: &Results, at: usize) -> Option<(u32, i64)> {
@@ -69,7 +78,7 @@ fn a_script_is_told_as_the_driver_alone_tells_it(rt: HostRuntime) -> Result<(), 
         assert_eq!(rt; told_at(&through, at), Some(*told));
         assert_eq!(rt; told_at(&alone, at), Some(*told));
     }
-    assert_eq!(rt; (through.len(), alone.len()), (6, 6));
+    assert_eq!(rt; (through.len(), alone.len()), (7, 7));
     assert_eq!(rt; driver.tracked, other.tracked);
     assert_eq!(rt; (driver.recorded, driver.clears), (None, 2));
     assert_eq!(rt; (other.recorded, other.clears), (None, 2));
