@@ -9,4 +9,4 @@ pub use Rattle.batch_rail.specs.Maker
 pub use Rattle.gl_front.specs.Front
 pub use Rattle.gl_front.specs.Taking
 pub use Rattle.soft_driver.specs.Own
-pub use Rattle.soft_driver.specs.Soft
+pub use Rattle.soft_driver.specs.Renderer

@@ -1,5 +1,6 @@
 -- What is printed; own.
-use Rattle.soft_driver.specs.Own.{first_own}
+use Rattle.gl_objects.specs.Step.{no_objects}
+use Rattle.soft_driver.specs.Renderer.{first_soft}
 use Rattle.frame_loop.specs.declared.asked.Asked.{Asked}
 use Rattle.frame_loop.specs.declared.session.Shown.{Shown}
 use Rattle.frame_loop.specs.Checksum.{checksum_of}
@@ -10,5 +11,5 @@ use Rattle.frame_loop.specs.Work.{sum_of}
 abbrev pub shown_by : Asked → Shown
 shown_by asked = record {
   sum = sum_of asked.work asked.frames;
-  checksum = checksum_of (after_frames asked.asks asked.frames (first_own 0 256 256)).frame.cells;
+  checksum = checksum_of (after_frames asked.asks asked.frames (first_soft 0 256 256 no_objects)).own.frame.cells;
 }

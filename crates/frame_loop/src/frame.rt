@@ -36,7 +36,7 @@ fn make<T: Threads + Sync, W: Wait, R: WaitRail<Soft>>(
 ) -> Result<(), NoMemory>
     requires memory { front.old.memory ≡ [] }
     requires low { IsLow R.sent (2 ^ 62 - 2) front.old }
-    ensures made { OnOk result (LeadsBy R.stands (λ own. after own call.now) front.old front.new) }
+    ensures made { OnOk result (LeadsBy R.stands (λ soft. after soft call.now) front.old front.new) }
     ensures memory { OnOk result (front.new.memory ≡ []) }
     ensures rises { RisesBy R.sent 2 front.old front.new }
 {

@@ -3,8 +3,8 @@
 ghost use Rattle.std.specs.Prelude.{◌≡◌, ◌≤◌, [], IfOk, OnOk};
 ghost use Rattle.batch_rail.specs.Maker.{IsLaunched};
 ghost use Rattle.gl_tracked.specs.Tracked.{first_tracked};
-ghost use Rattle.soft_driver.specs.Own.{Own};
-ghost use Rattle.soft_driver.specs.Soft.{own_tracked};
+ghost use Rattle.gl_objects.specs.Step.{no_objects};
+ghost use Rattle.soft_driver.specs.Renderer.{first_soft, soft_tracked, SoftView};
 ghost use Rattle.frame_loop.specs.Frame.{after_frames};
 ghost use Rattle.frame_loop.specs.Shown.{shown_by};
 ghost use Rattle.frame_loop.specs.Work.{sum_of};
@@ -15,6 +15,7 @@ use crate::frame::draw_all;
 use batch_rail::{RailLender, WaitMaker, WaitPart, WaitRail};
 use gl_front::WaitFront;
 use gl_memory::ClientMemory;
+use gl_objects::Objects;
 use soft_driver::Soft;
 use std::alloc::{AllocError as NoMemory, Global};
 use std::sync::Wait;
@@ -29,6 +30,16 @@ pub struct Shown {
     pub checksum: u64,
 }
 
+/// The renderer at the start of context 0, of 256 by 256 pixels, beside no objects.
+fn new_soft(alloc: Global) -> Result<Soft, NoMemory>
+    ensures { IfOk result (λ soft. soft ≡ first_soft 0 256 256 no_objects) }
+{
+    match Soft::new(alloc, 0, 256, 256, Objects::new(alloc)) {
+        Ok(soft) => Ok(soft),
+        Err((_objects, refused)) => Err(refused),
+    }
+}
+
 /// Draws the frames over a rail that was just launched, and gives it back, with no batch open, on every way out.
 fn drawn_over<T: Threads + Sync, W: Wait, R: WaitRail<Soft>>(
     rt: &T,
@@ -38,13 +49,13 @@ fn drawn_over<T: Threads + Sync, W: Wait, R: WaitRail<Soft>>(
     memory: ClientMemory,
     asked: Asked,
 ) -> (Result<u64, NoMemory>, R)
-    requires launched { IsLaunched own_tracked (R.stands rail) (R.failed rail) (R.home rail)
+    requires launched { IsLaunched soft_tracked (R.stands rail) (R.failed rail) (R.home rail)
         (R.size rail) first_tracked }
     requires none_sent { R.sent rail ≡ 0 }
     requires memory { memory ≡ [] }
     requires few { asked.frames ≤ 1000000 }
     ensures home { R.home result.1 }
-    ensures drawn { OnOk result.0 ((st2 : Own) → R.stands result.1 st2 → (st : Own)
+    ensures drawn { OnOk result.0 ((st2 : SoftView) → R.stands result.1 st2 → (st : SoftView)
         × R.stands rail st × (st2 ≡ after_frames asked.asks asked.frames st)) }
     ensures sum { IfOk result.0 (λ sum. sum ≡ sum_of asked.work asked.frames) }
 {
@@ -70,7 +81,7 @@ pub fn shown_over<T: Threads + Sync, W: Wait, M: WaitMaker<Soft>>(
     ensures { IfOk result (λ shown. shown ≡ shown_by asked) }
 {
     let memory = ClientMemory::new(alloc, 0)?;
-    let driver = Soft::new(alloc, 0, 256, 256)?;
+    let driver = new_soft(alloc)?;
     let mut part = maker.split(0);
     let rail = match part.launch(rt, wait, alloc, driver, 1024, 8) {
         Ok(rail) => rail,
@@ -81,7 +92,7 @@ pub fn shown_over<T: Threads + Sync, W: Wait, M: WaitMaker<Soft>>(
     maker.join(0, part);
     let sum = drawn?;
     let soft = closed?;
-    let frame = soft.into_parts();
+    let (frame, _objects) = soft.into_parts();
     Ok(Shown {
         sum,
         checksum: checksum_of(frame.cells()),

@@ -11,9 +11,10 @@ use Rattle.gl_state.specs.Private.{first_private}
 use Rattle.script_reader.specs.declared.script.Act.{Act}
 use Rattle.script_reader.specs.declared.script.Act.TheVariants.{Mem, Image, Gl}
 use Rattle.script_reader.specs.declared.script.Line.{Line}
-use Rattle.gl_state.specs.Event.{NoEvent}
-use Rattle.soft_driver.specs.Own.{Own, Stepped, first_own, own_step}
-use Rattle.soft_driver.specs.Soft.{own_tracked, OwnSteps}
+use Rattle.gl_objects.specs.Step.{no_objects}
+use Rattle.gl_objects.specs.View.{ObjectsView}
+use Rattle.soft_driver.specs.Own.{first_own}
+use Rattle.soft_driver.specs.Renderer.{SoftSteps, SoftView, first_soft, soft_after, soft_reply, soft_tracked}
 use Rattle.replay_lines.specs.Lines.{Ran, Standing, after_act, after_lines, told_at, told_by_lines, StepsAt, StepsThrough, lines_in}
 use Rattle.replay_lines.specs.Moments.{Moment, moments_at, moments_by, issued_in, issued_by_lines}
 use Rattle.replay_lines.specs.Results.{DoneView, told_of}
@@ -23,35 +24,37 @@ use Rattle.replay_core.specs.Rail.{at_start}
 use Rattle.replay_core.specs.Script.{Scripted}
 
 -- a place reached, said by its parts
-abbrev pub reached_at : Own → List ℕ → List DoneView → Reached
-reached_at own memory told = record { own = own; memory = memory; told = told }
+abbrev pub reached_at : SoftView → List ℕ → List DoneView → Reached
+reached_at soft memory told = record { own = soft.own; objects = soft.objects; memory = memory; told = told }
 
 -- places reached are equal where their parts are
-reached_eq : (own own2 : Own) (memory memory2 : List ℕ) (told told2 : List DoneView) → own ≡ own2 → memory ≡ memory2 → told ≡ told2 → reached_at own memory told ≡ reached_at own2 memory2 told2
+reached_eq : (own own2 : SoftView) (memory memory2 : List ℕ) (told told2 : List DoneView) → own ≡ own2 → memory ≡ memory2 → told ≡ told2 → reached_at own memory told ≡ reached_at own2 memory2 told2
 reached_eq own own2 memory memory2 told told2 same_own same_memory same_told =
-    ap (λ (o : Own). reached_at o memory told) same_own
+    ap (λ (o : SoftView). reached_at o memory told) same_own
     ∙ ap (λ (m : List ℕ). reached_at own2 m told) same_memory
     ∙ ap (λ (t : List DoneView). reached_at own2 memory2 t) same_told
 
 -- what a line leads to
-act_is_direct : (number context : ℕ) (act : Act) (reply : Replied) (here : Standing) (st st2 : Own) (before : List DoneView)
-    → StepsAt own_tracked OwnSteps here act reply st st2
+act_is_direct : (number context : ℕ) (act : Act) (reply : Replied) (here : Standing) (st st2 : SoftView) (before : List DoneView)
+    → StepsAt soft_tracked SoftSteps here act reply st st2
     → carried_out (reached_at st here.memory before) number context act ≡ reached_at st2 (after_act here act reply).memory (before ++ told_at here.memory number context act reply)
+unfolding soft_after soft_reply
 act_is_direct number context (Mem at bytes) reply here st st2 before (same, none) =
     reached_eq st st2 (written here.memory at bytes.items) (written here.memory at bytes.items) before (before ++ []) (sym same) refl (sym (append-nil before))
 act_is_direct number context (Image name width height at) reply here st st2 before (same, none) =
-    ap (λ (o : Own). carried_out (reached_at o here.memory before) number context (Image name width height at)) (sym same)
+    ap (λ (o : SoftView). carried_out (reached_at o here.memory before) number context (Image name width height at)) (sym same)
 act_is_direct number context (Gl call) reply here st st2 before (known, step) =
-    let gives : Stepped = own_step st call (memory_of here.memory) NoEvent in
-    reached_eq gives.own st2
-    (memory_after st.state.tracked call gives.reply here.memory) (memory_after here.tracked call reply here.memory)
-    (before ++ told_of number context call gives.reply) (before ++ told_of number context call reply)
+    let reached = soft_after st call (memory_of here.memory) in
+    let gives = soft_reply st call (memory_of here.memory) in
+    reached_eq reached st2
+    (memory_after st.own.state.tracked call gives here.memory) (memory_after here.tracked call reply here.memory)
+    (before ++ told_of number context call gives) (before ++ told_of number context call reply)
     (sym (step.0))
-    (ap (λ (t : Tracked). memory_after t call gives.reply here.memory) known ∙ ap (λ (r : Replied). memory_after here.tracked call r here.memory) (sym (step.1)))
+    (ap (λ (t : Tracked). memory_after t call gives here.memory) known ∙ ap (λ (r : Replied). memory_after here.tracked call r here.memory) (sym (step.1)))
     (ap (λ (r : Replied). before ++ told_of number context call r) (sym (step.1)))
 
 -- the moment of a line
-moment_is_direct : (act : Act) (reply : Replied) (here : Standing) (st st2 : Own) (before : List DoneView) → StepsAt own_tracked OwnSteps here act reply st st2 → moments_here (reached_at st here.memory before) act ≡ moments_at here act
+moment_is_direct : (act : Act) (reply : Replied) (here : Standing) (st st2 : SoftView) (before : List DoneView) → StepsAt soft_tracked SoftSteps here act reply st st2 → moments_here (reached_at st here.memory before) act ≡ moments_at here act
 moment_is_direct (Mem at bytes) reply here st st2 before step = refl
 moment_is_direct (Image name width height at) reply here st st2 before step = refl
 moment_is_direct (Gl call) reply here st st2 before (known, step) = ap (λ (t : Tracked). let m : Moment = record { tracked = t; memory = here.memory; call = call } in m ∷ []) known
@@ -61,7 +64,7 @@ abbrev pub lines_of : List Ran → List Line
 lines_of ran = map (λ (one : Ran). one.line) ran
 
 -- what lines lead to
-pub lines_are_direct : (ran : List Ran) (here : Standing) (st st2 : Own) (before : List DoneView) → StepsThrough own_tracked OwnSteps here ran st st2
+pub lines_are_direct : (ran : List Ran) (here : Standing) (st st2 : SoftView) (before : List DoneView) → StepsThrough soft_tracked SoftSteps here ran st st2
     → past_lines (reached_at st here.memory before) (lines_of ran) ≡ reached_at st2 (after_lines here ran).memory (before ++ told_by_lines here ran)
 unfolding past_lines after_lines told_by_lines StepsThrough
 lines_are_direct [] here st st2 before same = reached_eq st st2 here.memory here.memory before (before ++ []) (sym same) refl (sym (append-nil before))
@@ -73,7 +76,7 @@ lines_are_direct (one ∷ ran) here st st2 before (mid, step, rest) =
     ∙ ap (λ (t : List DoneView). reached_at st2 (after_lines next ran).memory t) (append_assoc before first (told_by_lines next ran))
 
 -- the moments of lines
-pub moments_are_direct : (ran : List Ran) (here : Standing) (st st2 : Own) (before : List DoneView) → StepsThrough own_tracked OwnSteps here ran st st2 → moments_past (reached_at st here.memory before) (lines_of ran) ≡ moments_by here ran
+pub moments_are_direct : (ran : List Ran) (here : Standing) (st st2 : SoftView) (before : List DoneView) → StepsThrough soft_tracked SoftSteps here ran st st2 → moments_past (reached_at st here.memory before) (lines_of ran) ≡ moments_by here ran
 unfolding moments_past moments_by StepsThrough
 moments_are_direct [] here st st2 before same = refl
 moments_are_direct (one ∷ ran) here st st2 before (mid, step, rest) =
@@ -84,17 +87,17 @@ moments_are_direct (one ∷ ran) here st st2 before (mid, step, rest) =
     ∙ ap (λ (m : List Moment). moments_at here one.line.act ++ m) (moments_are_direct ran next mid st2 (before ++ first) rest)
 
 -- a new context has the first tracked state
-pub first_own-tracked : (context width height : ℕ) → own_tracked (first_own context width height) ≡ first_tracked
+pub first_soft-tracked : (context width height : ℕ) (objects : ObjectsView) → soft_tracked (first_soft context width height objects) ≡ first_tracked
 unfolding first_own first_private
-first_own-tracked context width height = refl
+first_soft-tracked context width height objects = refl
 
 -- lines that were run from the start of a script's context on led to its end
-module _ (context : ℕ) (script : Scripted) (ran : List Ran) (st st2 : Own) (memory : List ℕ)
-    (is_first : st ≡ first_own context script.width script.height) (is_blank : memory ≡ replicate script.memory 0) (each : lines_of ran ≡ lines_in context script.lines)
-    (led : StepsThrough own_tracked OwnSteps (at_start memory) ran st st2) where
+module _ (context : ℕ) (script : Scripted) (ran : List Ran) (st st2 : SoftView) (memory : List ℕ)
+    (is_first : st ≡ first_soft context script.width script.height no_objects) (is_blank : memory ≡ replicate script.memory 0) (each : lines_of ran ≡ lines_in context script.lines)
+    (led : StepsThrough soft_tracked SoftSteps (at_start memory) ran st st2) where
   -- the start of the script
   start_is : reached_at st memory [] ≡ start_of context script
-  start_is = reached_eq st (first_own context script.width script.height) memory (replicate script.memory 0) [] [] is_first is_blank refl
+  start_is = reached_eq st (first_soft context script.width script.height no_objects) memory (replicate script.memory 0) [] [] is_first is_blank refl
 
   pub end_is : end_of context script ≡ reached_at st2 (after_lines (at_start memory) ran).memory (told_by_lines (at_start memory) ran)
   unfolding end_of

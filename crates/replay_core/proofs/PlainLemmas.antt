@@ -7,7 +7,7 @@ use Rattle.gl_memory.specs.Room.{RoomView}
 use Rattle.gl_memory.specs.Segment.{AreBytes}
 use Rattle.gl_words.specs.Call.{IsInRange, is_answering}
 use Rattle.gl_words.specs.declared.call.Call.{Call}
-use Rattle.gl_words.specs.declared.call.Call.TheVariants.{ActiveTexture, ClientActiveTexture, ColorPointer, DisableClientState, EnableClientState, MatrixMode, NormalPointer, PixelStorei, PopMatrix, PushMatrix, TexCoordPointer, VertexPointer}
+use Rattle.gl_words.specs.declared.call.Call.TheVariants.{ActiveTexture, BindBuffer, ClientActiveTexture, ColorPointer, DeleteBuffers, DisableClientState, EnableClientState, MatrixMode, NormalPointer, PixelStorei, PopMatrix, PushMatrix, TexCoordPointer, VertexPointer}
 use Rattle.gl_tracked.specs.declared.tracked.Tracked.{Tracked}
 use Rattle.gl_tracked.specs.Step.{tracked_after}
 use Rattle.gl_tracked.proofs.Stepping.{may_set, tracked_after-others}
@@ -26,8 +26,10 @@ use Rattle.replay_core.specs.Plain.{CarriesOut, PlainView, standing_by}
 answering_sets_nothing : (call : Call) → is_answering call ≡ true → may_set call ≡ false
 unfolding is_answering
 answering_sets_nothing (ActiveTexture texture) asks = absurd (true≢false (sym asks))
+answering_sets_nothing (BindBuffer target buffer) asks = absurd (true≢false (sym asks))
 answering_sets_nothing (ClientActiveTexture texture) asks = absurd (true≢false (sym asks))
 answering_sets_nothing (ColorPointer size kind stride pointer) asks = absurd (true≢false (sym asks))
+answering_sets_nothing (DeleteBuffers n names) asks = absurd (true≢false (sym asks))
 answering_sets_nothing (DisableClientState array) asks = absurd (true≢false (sym asks))
 answering_sets_nothing (EnableClientState array) asks = absurd (true≢false (sym asks))
 answering_sets_nothing (MatrixMode mode) asks = absurd (true≢false (sym asks))

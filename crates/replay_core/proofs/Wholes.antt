@@ -11,7 +11,6 @@ use Rattle.script_reader.specs.Limits.{IsAct, IsLine}
 use Rattle.script_reader.specs.declared.script.Act.{Act}
 use Rattle.script_reader.specs.declared.script.Act.TheVariants.{Mem, Image, Gl}
 use Rattle.script_reader.specs.declared.script.Line.{Line}
-use Rattle.gl_state.specs.Event.{NoEvent}
 use Rattle.soft_driver.specs.Own.{own_step}
 use Rattle.replay_lines.specs.Limits.{IsSmall, TakesLittle}
 use Rattle.replay_lines.specs.Lines.{lines_in}
@@ -36,7 +35,7 @@ whole_past here number context (Image name width height at) within before =
     All-append (λ (done : DoneView). IsWhole done.shown) here.told _ before
     (All-cons (λ (done : DoneView). IsWhole done.shown) _ [] (record { sides = record { wide = within.some_columns; no_wider = within.few_columns; high = within.some_rows; no_higher = within.few_rows }; whole = length-bytes_from (memory_of here.memory) at (width * height * 4) }) (All-nil (λ (done : DoneView). IsWhole done.shown)))
 whole_past here number context (Gl call) within before =
-    All-append (λ (done : DoneView). IsWhole done.shown) here.told _ before (no_image number context call (own_step here.own call (memory_of here.memory) NoEvent).reply (is_answering call))
+    All-append (λ (done : DoneView). IsWhole done.shown) here.told _ before (no_image number context call (own_step here.own call (memory_of here.memory) here.objects).reply (is_answering call))
 
 -- lines, one after another
 whole_past_lines : (here : Reached) (lines : List Line) → All IsLine lines → AreWhole here.told → AreWhole (past_lines here lines).told

@@ -3,14 +3,17 @@
 ghost use Rattle.std.specs.Prelude.{◌≡◌, ◌≤◌, ◌<◌, [], ◌∷◌, IfOk, OnOk};
 ghost use Rattle.std.specs.List.{All};
 ghost use Rattle.fragment_ops.specs.Frame.{AreSides};
+ghost use Rattle.gl_objects.specs.Step.{no_objects};
 ghost use Rattle.script_reader.specs.Limits.{IsLine};
+ghost use Rattle.soft_driver.specs.Renderer.{first_soft};
 ghost use Rattle.replay_lines.specs.Lines.{lines_in};
-ghost use Rattle.replay_core.specs.Direct.{end_of};
+ghost use Rattle.replay_core.specs.Direct.{end_of, soft_reached};
 ghost use Rattle.replay_core.specs.Plain.{CarriesOut};
 ghost use Rattle.replay_core.specs.Script.{IsOneContext, first_context, seen_script};
 
 use driver_trait::{Driver, write_reply};
 use gl_memory::ClientMemory;
+use gl_objects::Objects;
 use gl_tracked::Tracked;
 use gl_words::{Call, is_answering};
 use replay_lines::{Done, Results, image_of};
@@ -40,15 +43,32 @@ pub fn direct<T: Threads + Sync>(
     ensures told { IfOk result
         (λ done. done.results ≡ (end_of context (seen_script script.now)).told) }
     ensures soft { IfOk result
-        (λ done. done.soft ≡ (end_of context (seen_script script.now)).own) }
+        (λ done. done.soft ≡ soft_reached (end_of context (seen_script script.now))) }
 {
     let sides = only_context(script);
     let memory = ClientMemory::new(alloc, sides.memory)?;
-    let soft = Soft::new(alloc, context, sides.width, sides.height)?;
+    let soft = new_soft(alloc, context, sides.width, sides.height)?;
     let mut plain = Plain::new(alloc, soft, memory);
     plain.carry_out(rt, alloc, context, script.lines.as_slice())?;
     let (soft, results) = plain.into_parts();
     Ok(DirectRun { results, soft })
+}
+
+/// The renderer at the start of a context of this number and of these sides in pixels, beside no objects.
+pub(crate) fn new_soft(
+    alloc: Global,
+    context: u32,
+    width: u32,
+    height: u32,
+) -> Result<Soft, NoMemory>
+    requires context { context < 4 }
+    requires sides { AreSides width height }
+    ensures { IfOk result (λ soft. soft ≡ first_soft context width height no_objects) }
+{
+    match Soft::new(alloc, context, width, height, Objects::new(alloc)) {
+        Ok(soft) => Ok(soft),
+        Err((_objects, refused)) => Err(refused),
+    }
 }
 
 /// A driver that shows the tracked part of its state.

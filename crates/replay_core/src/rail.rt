@@ -10,13 +10,13 @@ ghost use Rattle.script_reader.specs.Limits.{IsLine};
 ghost use Rattle.replay_lines.specs.Limits.{most_lines};
 ghost use Rattle.replay_lines.specs.Lines.{lines_in};
 ghost use Rattle.replay_core.specs.Calls.{calls_of};
-ghost use Rattle.replay_core.specs.Direct.{end_of};
+ghost use Rattle.replay_core.specs.Direct.{end_of, soft_reached};
 ghost use Rattle.replay_core.specs.Journals.{batches_of, HandsOver, HandsOverSome};
 ghost use Rattle.replay_core.specs.Rail.{GainsSome, RunsOver};
 ghost use Rattle.replay_core.specs.Report.{counted};
 ghost use Rattle.replay_core.specs.Script.{IsOneContext, seen_script};
 
-use crate::plain::only_context;
+use crate::plain::{new_soft, only_context};
 use crate::ways::{Launches, RunsLines};
 use batch_rail::RailState;
 use driver_trait::Machine;
@@ -63,7 +63,7 @@ pub(crate) fn run_script<
     ensures told { IfOk result
         (λ done. done.results ≡ (end_of context (seen_script script.now)).told) }
     ensures soft { IfOk result
-        (λ done. done.soft ≡ (end_of context (seen_script script.now)).own) }
+        (λ done. done.soft ≡ soft_reached (end_of context (seen_script script.now))) }
     ensures counts { IfOk result (λ done. counted done.counts
         ≡ tally_of batch (calls_of batch context (seen_script script.now))) }
     ensures journal { OnOk result
@@ -74,7 +74,7 @@ pub(crate) fn run_script<
 {
     let sides = only_context(script);
     let memory = ClientMemory::new(alloc, sides.memory)?;
-    let driver = Soft::new(alloc, context, sides.width, sides.height)?;
+    let driver = new_soft(alloc, context, sides.width, sides.height)?;
     let (part, rail) = match H::launch(rails, rt, wait, alloc, context, driver, batch, ring) {
         Ok(lent) => lent,
         Err((_driver, refusal)) => return Err(refusal),

@@ -4,7 +4,7 @@ ghost use Rattle.std.specs.Prelude.{◌≡◌, ◌≤◌, ◌<◌, length, IfOk,
 ghost use Rattle.std.specs.List.{All};
 ghost use Rattle.script_reader.specs.Limits.{IsLine};
 ghost use Rattle.replay_lines.specs.Limits.{most_lines};
-ghost use Rattle.replay_core.specs.Direct.{end_of};
+ghost use Rattle.replay_core.specs.Direct.{end_of, soft_reached};
 ghost use Rattle.replay_core.specs.Images.{images_of};
 ghost use Rattle.replay_core.specs.Journals.{batches_for, HandsOver, HandsOverSome};
 ghost use Rattle.replay_core.specs.Report.{counted, counts_for, report_for, tally_line};
@@ -97,11 +97,11 @@ fn images(
 ) -> Result<Vec<ImageFile>, NoMemory>
     requires lines { All IsLine script.now.lines }
     requires told { results.now ≡ (end_of context (seen_script script.now)).told }
-    requires soft { soft ≡ (end_of context (seen_script script.now)).own }
+    requires soft { soft ≡ soft_reached (end_of context (seen_script script.now)) }
     ensures { IfOk result (λ images. images.items ≡ images_of context (seen_script script.now)) }
 {
     let mut images = files(alloc, results)?;
-    let frame = soft.into_parts();
+    let (frame, _objects) = soft.into_parts();
     images.push(frame_file(alloc, context, &frame)?)?;
     Ok(images)
 }

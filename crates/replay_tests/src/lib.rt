@@ -8,6 +8,8 @@ mod faults;
 #[cfg(test)]
 mod limits;
 #[cfg(test)]
+mod objects;
+#[cfg(test)]
 mod parts;
 #[cfg(test)]
 mod rails;

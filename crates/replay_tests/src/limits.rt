@@ -38,24 +38,27 @@ end
 ~frame-0.ppm 50360a323536203235360a3235350a^65536 ff0000^
 ";
 
-/// The same of a small frame, with calls of 18 slots.
+/// The same of a small frame, with calls of 18 slots, of which the last draws by indices.
 pub(crate) const SMALL: &str = "\
 done~
 glscript 1
 context 0 4 4 32
 0 mem 8 050304
+0 mem 22 FFFF01FFFF01
 0 EnableClientState VERTEX_ARRAY
 0 VertexPointer 2 BYTE 0 16
-0 ClearColorx 65536 0 0 65536
-0 Clear COLOR_BUFFER_BIT
-0 Scalex 65536 65536 65536
+0 DrawElements TRIANGLES 3 UNSIGNED_BYTE 8
 end
 ~
 glreport 1
-counts 0 5 0 0 $
+counts 0 3 0 0 $
 images 1
 end
-~frame-0.ppm 50360a3420340a3235350aff0000ff0000ff0000ff0000ff0000ff0000ff0000ff0000ff0000ff0000ff0000ff0000ff0000ff0000ff0000ff0000
+~frame-0.ppm 50360a3420340a3235350a\
+000000000000000000000000\
+ffffff000000000000000000\
+ffffffffffff000000000000\
+ffffffffffffffffff000000
 ";
 
 /// As many lines as a script may have, over the longest ring.

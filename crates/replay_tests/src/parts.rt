@@ -2,6 +2,7 @@
 
 use gl_front::Counts;
 use gl_memory::{ClientMemory, Numbers};
+use gl_objects::Objects;
 use gl_words::Call;
 use replay_core::{direct_report, frame_file, report};
 use replay_lines::{Done, Printed, Results, What, image_of};
@@ -66,7 +67,10 @@ fn an_answer_is_one_line_with_all_its_numbers(rt: HostRuntime) -> Result<(), Fai
 
 #[test]
 fn a_frame_has_the_number_of_its_context(rt: HostRuntime) -> Result<(), Fail> {
-    let frame = Soft::new(rt.alloc(), 3, 1, 2)?.into_parts();
+    let frame = match Soft::new(rt.alloc(), 3, 1, 2, Objects::new(rt.alloc())) {
+        Ok(soft) => soft.into_parts().0,
+        Err((_objects, refused)) => return Err(refused.into()),
+    };
     let file = frame_file(rt.alloc(), 3, &frame)?;
     assert_eq!(rt; file.name(), "frame-3.ppm");
     assert_eq!(rt; file.bytes(), b"P6\n1 2\n255\n\0\0\0\0\0\0".as_slice());

@@ -4,6 +4,7 @@ ghost use Rattle.std.specs.Prelude.{◌<◌};
 
 use crate::drawn::DRAWN;
 use crate::limits::{LARGE, MOST_BATCHES, MOST_LINES, PAST_LIMITS, SMALL};
+use crate::objects::OBJECTS;
 use crate::told::{REFUSED, RUNS};
 use crate::ways::{Left, Outside, Ready, WAYS, Way, replay_over, wait_over};
 use batch_rail::{JournalMaker, RailKind};
@@ -170,7 +171,7 @@ fn each_script_has_its_report_and_its_images(rt: HostRuntime) -> Result<(), Fail
     Ok(())
 }
 
-/// Runs each of these scripts that draw in this way: by `direct` where that can be had, and with batches of each of the two
+/// Runs each of these scripts in this way: by `direct` where that can be had, and with batches of each of the two
 /// sizes. Counts the runs.
 fn count_drawn<T: Threads + Wait + Copy + Send + Sync + Abort + 'static>(
     rt: T,
@@ -202,6 +203,15 @@ fn count_drawn<T: Threads + Wait + Copy + Send + Sync + Abort + 'static>(
 fn each_script_that_draws_has_its_report_and_its_images(rt: HostRuntime) -> Result<(), Fail> {
     for (way, runs) in WAYS.into_iter().zip([33, 33, 22, 22]) {
         assert_eq!(rt; count_drawn(rt, rt.alloc(), way, DRAWN)?, runs, "{way:?}");
+    }
+    Ok(())
+}
+
+// The first five were worked by hand, and another program gives the same; the others are that program's.
+#[test]
+fn each_script_of_objects_has_its_report_and_its_images(rt: HostRuntime) -> Result<(), Fail> {
+    for (way, runs) in WAYS.into_iter().zip([30, 30, 20, 20]) {
+        assert_eq!(rt; count_drawn(rt, rt.alloc(), way, OBJECTS)?, runs, "{way:?}");
     }
     Ok(())
 }
@@ -261,7 +271,7 @@ fn large_things_succeed(rt: HostRuntime) -> Result<(), Fail> {
     )
 }
 
-// Worked by hand: the calls have 18 slots together, of which the last has four.
+// Worked by hand: the calls have 18 slots together, of which the draw has 11.
 #[test]
 fn sizes_of_batches_and_rings_leave_the_same_image(rt: HostRuntime) -> Result<(), Fail> {
     let sizes = [(16, 2), (17, 2), (18, 1), (77, 1), (1024, 1), (8192, 1)];

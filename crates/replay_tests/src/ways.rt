@@ -2,7 +2,7 @@
 
 ghost use Rattle.std.specs.Prelude.{◌≡◌, true, IfOk, IfErr};
 ghost use Rattle.epoch_rail.specs.Work.{Carried};
-ghost use Rattle.soft_driver.specs.Soft.{OwnSteps};
+ghost use Rattle.soft_driver.specs.Renderer.{SoftSteps};
 ghost use Rattle.replay_core.specs.Outcome.{Ask};
 ghost use Rattle.replay_text.specs.Words.{rail_in};
 ghost use Rattle.replay_text.specs.declared.asked.Command.{Command};
@@ -200,7 +200,7 @@ pub(crate) fn over_workers<T: Threads + Wait + Copy + Send + Sync + Abort + 'sta
 /// Gives the work back.
 fn no_thread(work: Work<Soft>) -> Result<PromisedHandle<Work<Soft>, Interval<Soft>>, Work<Soft>>
     ensures ok { IfOk result (λ worker. worker.promise.was.value ≡ work) }
-    ensures err { IfErr result (λ back. Carried OwnSteps work back) }
+    ensures err { IfErr result (λ back. Carried SoftSteps work back) }
 {
     Err(work)
 }

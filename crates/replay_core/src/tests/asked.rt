@@ -6,10 +6,11 @@ ghost use Rattle.std.specs.List.{All};
 ghost use Rattle.std.specs.Thread.{IsSync};
 ghost use Rattle.driver_trait.specs.Reply.{replied};
 ghost use Rattle.gl_tracked.specs.Tracked.{first_tracked};
-ghost use Rattle.soft_driver.specs.Soft.{own_tracked, OwnSteps, soft_is_driver};
+ghost use Rattle.soft_driver.specs.Renderer.{soft_tracked, SoftSteps};
+ghost use Rattle.soft_driver.specs.Soft.{soft_is_driver};
 ghost use Rattle.script_reader.specs.Limits.{IsLine};
 
-use crate::plain::{Plain, Shows};
+use crate::plain::{Plain, Shows, new_soft};
 use crate::rail::run_over;
 use batch_rail::{InlineMaker, RailMaker};
 use driver_trait::{Driver, Machine, Plainly, Reply};
@@ -31,9 +32,9 @@ struct Counting {
 }
 
 impl Model for Counting {
-    ghost use Rattle.soft_driver.specs.Own.{Own};
+    ghost use Rattle.soft_driver.specs.Renderer.{SoftView};
 
-    ghost Value = { Own };
+    ghost Value = { SoftView };
 
     ghost view = { λ c. c.soft };
 }
@@ -42,9 +43,9 @@ impl Counting {
     /// A new renderer of context 2, of one pixel.
     #[tactic(auto, unfolding(soft_driver::specs::Own::first_own, gl_state::specs::Private::first_private))]
     fn new(alloc: Global) -> Result<Counting, NoMemory>
-        ensures { IfOk result (λ counting. own_tracked counting ≡ first_tracked) }
+        ensures { IfOk result (λ counting. soft_tracked counting ≡ first_tracked) }
     {
-        let soft = Soft::new(alloc, 2, 1, 1)?;
+        let soft = new_soft(alloc, 2, 1, 1)?;
         Ok(Counting { soft, asked: 0 })
     }
 
@@ -54,9 +55,9 @@ impl Counting {
 }
 
 impl Machine for Counting {
-    ghost tracked = { own_tracked };
+    ghost tracked = { soft_tracked };
 
-    ghost steps = { OwnSteps };
+    ghost steps = { SoftSteps };
 
     ghost laws = { soft_is_driver };
 }
