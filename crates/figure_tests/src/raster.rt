@@ -301,6 +301,64 @@ fn level_corners_leave_one_depth(rt: HostRuntime) {
     assert_eq!(rt; seen, 16);
 }
 
+/// Rows of a triangle in one colour, whose depth is the same in every column, are runs.
+fn runs_are_rows(rt: &impl Abort, at: [[i32; 4]; 3]) {
+    let corners = [
+        corner(at[0], [ONE, 0, 7]),
+        corner(at[1], [ONE, 0, 7]),
+        corner(at[2], [ONE, 0, 7]),
+    ];
+    let setup = Setup::new(&corners, VIEW, AREA).expect(rt, "the corners stand on no line");
+    for y in 0..4 {
+        let run = setup
+            .run(y)
+            .expect(rt, "depth and values are the same in every column");
+        let mut row = setup.row(y);
+        let mut wanted = run.first;
+        for _ in 0..run.count {
+            assert_eq!(rt; row.next(), Some(wanted));
+            wanted.x = wanted.x.wrapping_add(1);
+        }
+        assert_eq!(rt; row.next(), None);
+    }
+    assert_eq!(rt; setup.run(-1), None);
+    assert_eq!(rt; setup.run(4), None);
+}
+
+#[test]
+fn a_run_is_all_of_a_row(rt: HostRuntime) {
+    let half = ONE / 2;
+    let cases = [
+        // One depth.
+        [
+            [-ONE, -ONE, half, ONE],
+            [3 * ONE, -ONE, half, ONE],
+            [-ONE, 3 * ONE, half, ONE],
+        ],
+        // One depth a row, the highest past the far plane.
+        [
+            [-ONE, -ONE, -half, ONE],
+            [ONE, -ONE, -half, ONE],
+            [0, ONE, 2 * ONE, ONE],
+        ],
+        // All past the far plane.
+        [
+            [-ONE, -ONE, 2 * ONE, ONE],
+            [ONE, -ONE, 2 * ONE, ONE],
+            [0, ONE, 2 * ONE, ONE],
+        ],
+        // Corners so far away that sums take more than 64 bits.
+        [[-FAR, -FAR, 0, ONE], [FAR, -FAR, 0, ONE], [0, FAR, 0, ONE]],
+        [[-FAR, -FAR, 0, FAR], [FAR, -FAR, 0, FAR], [0, FAR, 0, FAR]],
+    ];
+    for at in &cases {
+        runs_are_rows(&rt, *at);
+    }
+    let corners = triangle(cases[0]);
+    let setup = Setup::new(&corners, VIEW, AREA).expect(&rt, "the corners stand on no line");
+    assert_eq!(rt; setup.run(0), None);
+}
+
 /// Adds one for each fragment of a triangle, and says how many there were.
 fn drawn(rt: &impl Abort, corners: &[Vertex; 3], pixels: &mut [u8; 16]) -> usize
     requires { AreCorners corners.now }

@@ -1,5 +1,5 @@
 -- How far from zero sums and products lie, and that numbers so bounded keep their value in a type of 64 or 128 bits.
-use Rattle.std.proofs.Common.{◌≡◌, ℕ, ◌+◌, ◌*◌, ◌^◌, ◌≤◌, ◌<◌, ℤ, pos, negsuc, suc, ◌+ℤ◌, ◌-ℤ◌, ◌*ℤ◌, ◌≤ℤ◌, FitsSigned, w32, w64, to_z, of_z, sym, subst, ap, arith}
+use Rattle.std.proofs.Common.{◌≡◌, ℕ, ◌+◌, ◌*◌, ◌^◌, ◌≤◌, ◌<◌, ℤ, pos, negsuc, suc, neg_ℤ, ◌+ℤ◌, ◌-ℤ◌, ◌*ℤ◌, ◌≤ℤ◌, FitsSigned, w32, w64, to_z, of_z, sym, subst, ap, arith}
 use Rattle.std.specs.Int.{w128}
 use Rattle.std.proofs.lemmas.Int.{ints, unsigned_abs-mul}
 use Rattle.std.proofs.lemmas.Nat.{mul-le}
@@ -46,6 +46,10 @@ within_more n p wider = record { within = omega arith }
 
 pub as_wider_128 : {m : ℕ} {z : ℤ} (n : ℕ) → IsWithin m z → m ≤ n → n < 2 ^ 127 → IsWithin n (to_z w128 (of_z w128 z))
 as_wider_128 n p wider small = as_128 (within_more n p wider) small
+
+-- a bound that was tested
+pub within_from_test : {m n : ℕ} {z : ℤ} → IsWithin m z → m < 2 ^ 127 → (neg_ℤ (pos n) ≤ℤ to_z w128 (of_z w128 z)) × (to_z w128 (of_z w128 z) ≤ℤ pos n) → IsWithin n z
+within_from_test {m} {n} {z} p small h = let low = h.0 in let high = h.1 in record { within = omega (arith, ints) }
 
 -- a number is zero where its bits are
 zero_from_bits' : (z : ℤ) → IsWithin (2 ^ 126) z → of_z w128 z ≡ 0 → z ≡ pos 0

@@ -105,3 +105,8 @@ module _ (s : Shape) (shape : IsShape s) (x y : ℤ) (count : ℕ) (span : Span)
 pub sums_kept : (s : Shape) (x y x' y' : ℤ) (sums : Sums) → AreSumsAt s x' y' sums → x' ≡ x → y' ≡ y → AreSumsAt s x y sums
 sums_kept s x y x' y' sums h p q =
     h ∙ ap (λ (z : ℤ). weights_of s.corners s.view z y') p ∙ ap (λ (z : ℤ). weights_of s.corners s.view x z) q
+
+-- and the columns of a span there
+pub among_kept : (s : Shape) (span : Span) (count : ℕ) {x y x' y' : ℤ} → x' ≡ x → y' ≡ y → ((k : ℤ) → IsIn span k ↔ IsCoveredAmong s x' y' count k) → (k : ℤ) → IsIn span k ↔ IsCoveredAmong s x y count k
+among_kept s span count {x} {y} {x'} {y'} p q h = λ k.
+    subst (λ (z : ℤ). IsIn span k ↔ IsCoveredAmong s z y count k) p (subst (λ (z : ℤ). IsIn span k ↔ IsCoveredAmong s x' z count k) q (h k))

@@ -2,7 +2,7 @@
 use Rattle.std.proofs.Common.{◌≡◌, zero, suc, Bool, true, false, ℤ, pos, negsuc, ◌+ℤ◌, ◌*ℤ◌, neg_ℤ, ◌<ℤ◌, ◌≤ℤ◌, ◌⊎◌, inl, inr, List, Option, None, refl, sym, ap, ◌∙◌, arith}
 use Rattle.std.specs.Prelude.{if◌then◌else◌}
 use Rattle.std.proofs.lemmas.Bool.{cases_Bool}
-use Rattle.std.proofs.lemmas.Int.{ints}
+use Rattle.std.proofs.lemmas.Int.{ints, by_lt_z}
 use Rattle.triangle_raster.specs.declared.fragment.Fragment.{Fragment}
 use Rattle.triangle_raster.specs.declared.vertex.Vertex.{Vertex}
 use Rattle.triangle_raster.specs.declared.vertex.View.{View}
@@ -277,6 +277,17 @@ module _ (u v w f g h a b c m z n : ℤ) (from_u : pos 0 ≤ℤ u) (from_v : pos
       let all = all_times in
       lesser_factor m (n *ℤ pos 2) z some (omega (arith, ints))
 
+no_times : (u a : ℤ) → u ≡ pos 0 → u *ℤ a ≡ pos 0
+no_times u a e = ap (λ (z : ℤ). z *ℤ a) e ∙ omega (arith, ints)
+
+some_of_three : (u v w a b c m : ℤ) → pos 0 ≤ℤ u → pos 0 ≤ℤ v → pos 0 ≤ℤ w → pos 0 <ℤ m → u *ℤ a +ℤ v *ℤ b +ℤ w *ℤ c ≡ m *ℤ pos 2 → pos 0 <ℤ (u +ℤ v +ℤ w)
+some_of_three u v w a b c m h k l some e =
+    by_lt_z (pos 0) (u +ℤ v +ℤ w) (λ more. more) (λ none.
+    let first = no_times u a (omega (arith, ints)) in
+    let second = no_times v b (omega (arith, ints)) in
+    let third = no_times w c (omega (arith, ints)) in
+    absurd (omega (arith, ints)))
+
 sign_of : (z : ℤ) → (z ≡ pos 0 → ⊥) → (z <ℤ pos 0) ⊎ (pos 0 <ℤ z)
 sign_of (pos zero) some = absurd (some refl)
 sign_of (pos (suc n)) some = inr (omega (arith, ints))
@@ -312,3 +323,10 @@ module _ (corners : List Vertex) (view : View) (not_flat : delta_of corners view
             absurd (omega (arith, ints))
         | inr out ↦ not_covered_none x y out
       ]
+
+  -- at a covered centre some corner weighs something
+  pub some_weights_covered : (x y : ℤ) → is_covered corners view x y ≡ true → pos 0 <ℤ ((weights_of corners view x y).one +ℤ (weights_of corners view x y).two +ℤ (weights_of corners view x y).three)
+  some_weights_covered x y covered =
+      let none = covered_not_negative corners view x y covered in
+      let centre = give_centre corners view x y (sign_of (delta_of corners view) not_flat) in
+      some_of_three _ _ _ _ _ _ centre.times none.from_one none.from_two none.from_three centre.positive centre.by_divisor

@@ -14,6 +14,7 @@ pub mod Quotients
 pub mod Ranges
 pub mod Walks
 pub mod Heights
+pub mod Evens
 pub mod Runs
 pub mod Carries
 pub mod CarriedWalks

@@ -1,5 +1,5 @@
 -- Means by weight stay within the bounds of what they are means of, and depths within theirs.
-use Rattle.std.proofs.Common.{◌≡◌, ℕ, suc, ◌+◌, ◌*◌, ◌/◌, ◌<◌, ◌≤◌, ◌^◌, ℤ, pos, negsuc, ◌+ℤ◌, ◌*ℤ◌, neg_ℤ, ◌<ℤ◌, ◌≤ℤ◌, unsigned_abs, to_z, of_z, List, [], ◌∷◌, length, get_or, refl, sym, subst, ap, ◌∙◌, arith}
+use Rattle.std.proofs.Common.{◌≡◌, ℕ, suc, ◌+◌, ◌*◌, ◌/◌, ◌<◌, ◌≤◌, ◌^◌, ℤ, pos, negsuc, ◌+ℤ◌, ◌*ℤ◌, neg_ℤ, ◌<ℤ◌, ◌≤ℤ◌, unsigned_abs, to_z, of_z, w32, w64, List, [], ◌∷◌, length, get_or, refl, sym, subst, ap, ◌∙◌, arith}
 use Rattle.std.specs.Int.{int_div_euclid, w128}
 use Rattle.std.proofs.lemmas.Int.{ints, by_lt_z}
 use Rattle.std.proofs.lemmas.Nat.{div_below}
@@ -107,4 +107,18 @@ pub depth_from_code : (z w : ℤ) {r : ℤ} → r ≡ int_div_euclid (kept (kept
 depth_from_code z w e near l p q =
     let same : kept (kept (kept z +ℤ kept w) *ℤ pos 65535) ≡ (z +ℤ w) *ℤ pos 65535 = omega (arith, ints) in
     let double : kept (pos 2 *ℤ kept w) ≡ pos 2 *ℤ w = omega (arith, ints) in
+    depth_as_kept z w e same double l p q
+
+-- and at 64 bits, of a corner
+abbrev pub short : ℤ → ℤ
+short z = to_z w64 (of_z w64 z)
+
+abbrev pub widened : ℤ → ℤ
+widened z = short (to_z w32 (of_z w32 z))
+
+pub depth_from_corner : (z w : ℤ) {r : ℤ} → r ≡ int_div_euclid (short (short (widened z +ℤ widened w) *ℤ pos 65535)) (short (pos 2 *ℤ widened w)) →
+    IsWithin (2 ^ 27) w → pos 0 <ℤ w → neg_ℤ w ≤ℤ z → z ≤ℤ w → (m : ℕ) × (r ≡ pos m) × (m ≤ 65535) × (m ≡ depth_of z w)
+depth_from_corner z w e near l p q =
+    let same : short (short (widened z +ℤ widened w) *ℤ pos 65535) ≡ (z +ℤ w) *ℤ pos 65535 = omega (arith, ints) in
+    let double : short (pos 2 *ℤ widened w) ≡ pos 2 *ℤ w = omega (arith, ints) in
     depth_as_kept z w e same double l p q

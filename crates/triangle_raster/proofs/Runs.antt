@@ -6,11 +6,12 @@ use Rattle.triangle_raster.specs.declared.fragment.Fragment.{Fragment}
 use Rattle.triangle_raster.specs.declared.shape.Shape.{Shape}
 use Rattle.triangle_raster.specs.declared.sums.Sums.{Sums}
 use Rattle.triangle_raster.specs.declared.walk.Walk.{Walk}
+use Rattle.triangle_raster.specs.declared.columns.Columns.{Columns}
 use Rattle.triangle_raster.specs.Vertex.{corner}
 use Rattle.triangle_raster.specs.Pixel.{Weights, is_covered, means, weights_of}
 use Rattle.triangle_raster.specs.Ranges.{number_at}
 use Rattle.triangle_raster.specs.Row.{numbers_from, pixels_at, run_of}
-use Rattle.triangle_raster.specs.Held.{alike_at, depth_at, walk_seen, HaveTenValues, IsLevel, IsShape, IsWalk}
+use Rattle.triangle_raster.specs.Held.{alike_at, alike_from, depth_at, walk_seen, AreColumns, AreSameFrom, HaveTenValues, IsLevel, IsShape, IsWalk}
 use Rattle.triangle_raster.proofs.Fragments.{fragment_from_depth, mean_kept, no_fragment_without_depth, pixel_of-covered, some_weight_from_depth}
 use Rattle.triangle_raster.proofs.Levels.{depth_at-level}
 use Rattle.triangle_raster.proofs.Means.{means_from_each}
@@ -66,6 +67,30 @@ module _ (s : Shape) (shape : IsShape s) (level : IsLevel s) (y : ℤ) where
         (pixel_of-covered s.corners s.view x y shape.not_flat here
         ∙ sym (fragment_from_depth s.corners (weights_of s.corners s.view x y) d e x y refl refl (means_are (weights_of s.corners s.view x y) some)))
         ∙ ap (λ (fs : List Fragment). like x ∷ fs) (run_left n (x +ℤ pos 1) (rest_covered x n covered) (next_depth_is x ∙ e))
+
+-- columns of a row whose depth and values are the same in every column
+module _ (s : Shape) (shape : IsShape s) (level : IsLevel s) (ten : HaveTenValues s.corners) (same : AreSameFrom s.corners 0) (y : ℤ) (c : Columns) (are : AreColumns s y c) (found : Option ℕ)
+    (depth : 0 < c.left → found ≡ depth_at s.corners (weights_of s.corners s.view c.x y)) where
+  covered_same : (n : ℕ) → n ≡ c.left → (k : ℕ) → k < n → is_covered s.corners s.view (c.x +ℤ pos k) y ≡ true
+  covered_same n h k below = are.each_covered k (subst (λ (m : ℕ). k < m) h below)
+
+  some_columns : (d : ℕ) → found ≡ Some d → (n : ℕ) → n ≡ c.left → pixels_at s.corners s.view y (numbers_from c.x n) ≡ run_of (alike_from s y c.x d) n
+  some_columns d is zero h = refl
+  some_columns d is (suc n) h =
+      run_left s shape level y (corner s.corners 0).values
+      (λ w some. means-same w some _ _ _ ten.first_ten ten.second_ten ten.third_ten (λ k below. same k (omega arith) below))
+      d (suc n) c.x (covered_same (suc n) h) (sym (depth (omega arith)) ∙ is)
+
+  no_columns : found ≡ None → (n : ℕ) → n ≡ c.left → pixels_at s.corners s.view y (numbers_from c.x n) ≡ []
+  no_columns is zero h = refl
+  no_columns is (suc n) h = none_left s shape level y (suc n) c.x (covered_same (suc n) h) (sym (depth (omega arith)) ∙ is)
+
+  pub run_of_columns : {d : ℕ} {f : Fragment} {count : ℕ} → found ≡ Some d → f ≡ alike_from s y c.x d → count ≡ c.left → pixels_at s.corners s.view y (numbers_from c.x c.left) ≡ run_of f count
+  run_of_columns {d} {f} {count} is first all =
+      some_columns d is c.left refl ∙ sym (ap (λ (g : Fragment). run_of g count) first ∙ ap (λ (n : ℕ). run_of (alike_from s y c.x d) n) all)
+
+  pub no_run_of_columns : (f : Fragment) {count : ℕ} → found ≡ None → count ≡ 0 → pixels_at s.corners s.view y (numbers_from c.x c.left) ≡ run_of f count
+  no_run_of_columns f {count} is none = no_columns is c.left refl ∙ sym (ap (λ (n : ℕ). run_of f n) none)
 
 -- a walk whose depth and values are the same in every column
 module _ (r : Walk) (holds : IsWalk r) (level : IsLevel r.shape) where

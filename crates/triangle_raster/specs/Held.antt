@@ -50,6 +50,12 @@ pub record IsNearEdge (e : Edge) : Type 0 where
   pub upward : IsWithin (2 ^ 68) e.y
   pub divisor : IsWithin (2 ^ 79) e.d
 
+-- the bounds of an edge whose values at centres fit in 64 bits
+pub record IsSmallEdge (e : Edge) : Type 0 where
+  pub small_across : IsWithin (2 ^ 50) e.x
+  pub small_upward : IsWithin (2 ^ 50) e.y
+  pub small_divisor : IsWithin (2 ^ 60) e.d
+
 -- the bounds of the sums at a pixel
 pub record AreNearSums (s : Sums) : Type 0 where
   pub near_one : IsWithin (2 ^ 81) s.one
@@ -74,6 +80,9 @@ pub record IsShape (s : Shape) : Type 0 where
   pub second_near : IsNearEdge s.two
   pub third_near : IsNearEdge s.three
   pub winding : IsTrue s.counter_clockwise ↔ (pos 0 <ℤ delta_of s.corners s.view)
+  pub first_small : IsTrue s.small → IsSmallEdge s.one
+  pub second_small : IsTrue s.small → IsSmallEdge s.two
+  pub third_small : IsTrue s.small → IsSmallEdge s.three
 
 -- the sums are the values of the edges at the centre in column x and row y
 abbrev pub AreSumsAt : Shape → ℤ → ℤ → Sums → Type 0
@@ -100,6 +109,10 @@ IsCoveredAmong s x y count k = (pos 0 ≤ℤ k) × (k <ℤ pos count) × IsTrue 
 -- the depth of a point with these weights, or none where it is not kept
 unfoldable pub depth_at : List Vertex → Weights → Option ℕ
 depth_at corners w = if is_kept (z_at corners w) (w_at corners w) then Some (depth_of (z_at corners w) (w_at corners w)) else None
+
+-- the depth of the covered points of corners with one z and one w, or none where they are not kept
+unfoldable pub even_depth : ℤ → ℤ → Option ℕ
+even_depth z w = if is_kept z w then Some (depth_of z w) else None
 
 -- by how much the weights grow, halved, from column to column
 abbrev pub steps_of : Shape → Weights
@@ -203,6 +216,10 @@ walk_seen r = pixels_at r.shape.corners r.shape.view r.y (numbers_from r.x r.lef
 -- a fragment in the column that is next, with this depth and the values of the first corner
 abbrev pub alike_at : Walk → ℕ → Fragment
 alike_at r depth = record { x = r.x; y = r.y; depth = depth; values = (corner r.shape.corners 0).values }
+
+-- a fragment in a column of a row, with this depth and the values of the first corner
+abbrev pub alike_from : Shape → ℤ → ℤ → ℕ → Fragment
+alike_from s y x depth = record { x = x; y = y; depth = depth; values = (corner s.corners 0).values }
 
 -- where depth and values are carried, they are those of this column
 pub record IsCarriedAt (r : Walk) (x : ℤ) : Type 0 where

@@ -31,6 +31,35 @@ pub fn long_product(a: i128, b: i64) -> i128
     a * b as i128
 }
 
+/// The product of a number of 61 bits and another one, where it is one of 62 bits.
+pub fn short_product(a: i128, b: i64) -> i64
+    requires a { IsWithin (2 ^ 60) a }
+    requires near { IsWithin (2 ^ 61) (a *ℤ b) }
+    ensures { result ≡ a *ℤ b }
+{
+    let short = a as i64;
+    short * b
+}
+
+/// The sum of three numbers of 61 and 62 bits.
+pub fn short_total(a: i64, b: i64, c: i64) -> i64
+    requires a { IsWithin (2 ^ 60) a }
+    requires b { IsWithin (2 ^ 60) b }
+    requires c { IsWithin (2 ^ 61) c }
+    ensures value { result ≡ a +ℤ b +ℤ c }
+    ensures near { IsWithin (2 ^ 62) result }
+{
+    a + b + c
+}
+
+/// A sum of 64 bits over the whole, rounded down.
+pub fn small_quotient(sum: i64, whole: i64) -> i64
+    requires { pos 0 <ℤ whole }
+    ensures { result ≡ int_div_euclid sum whole }
+{
+    sum.div_euclid(whole)
+}
+
 /// The sum of three numbers of 121 bits.
 pub fn total(a: i128, b: i128, c: i128) -> i128
     requires a { IsWithin (2 ^ 120) a }

@@ -31,8 +31,7 @@ impl Columns {
             (numbers_from result.x result.left)
             ≡ pixels_at shape.now.corners shape.now.view y (numbers_from x count) }
     {
-        let sums = shape.sums_at(x, y);
-        let span = shape.span(&sums, count);
+        let span = shape.span_at(x, y, count);
         let start = x + span.from;
         let width = span.to - span.from;
         Columns {

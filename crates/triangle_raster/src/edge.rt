@@ -1,13 +1,15 @@
 //! Points of the window and edges between them, as vectors of three numbers.
 //! No division is made here: a point keeps its divisor.
 
-ghost use Rattle.std.specs.Prelude.{◌≡◌, ◌≤◌, ◌^◌, ◌+ℤ◌, ◌-ℤ◌, ◌*ℤ◌, ◌<ℤ◌, ◌≤ℤ◌, ◌↔◌, ℤ, pos, false, IsTrue};
+ghost use Rattle.std.specs.Prelude.{◌≡◌, ◌≤◌, ◌^◌, ◌+ℤ◌, ◌-ℤ◌, ◌*ℤ◌, ◌<ℤ◌, ◌≤ℤ◌, ◌↔◌, ℤ, neg_ℤ, pos, false, IsTrue};
 ghost use Rattle.triangle_raster.specs.Vertex.{IsCorner, IsView, IsWithin, IsFromTo, place_of, centre_of, edge_through, value_at, turned};
 ghost use Rattle.triangle_raster.specs.Pixel.{inward, above_or};
-ghost use Rattle.triangle_raster.specs.Held.{point_seen, edge_seen, passes_in, IsIn, IsNearPoint, IsNearCentre, IsNearEdge, IsSpan};
+ghost use Rattle.triangle_raster.specs.Held.{point_seen, edge_seen, passes_in, IsIn, IsNearPoint, IsNearCentre, IsNearEdge, IsSmallEdge, IsSpan};
 
-use crate::arithmetic::{long_product, product, small_product, total};
-use crate::span::{Span, first_not_below_zero};
+use crate::arithmetic::{
+    all_of, long_product, product, short_product, short_total, small_product, total,
+};
+use crate::span::{Span, first_not_below_zero, small_first_not_below_zero};
 use crate::vertex::{Vertex, View};
 
 /// A corner's point, (x / d, y / d) in pixels; d is twice the corner's w (16.16 fixed).
@@ -48,6 +50,13 @@ fn part(coordinate: i32, w: i32, side: i32, corner: i32) -> i64
 {
     let span = stretched(side, corner);
     small_product(coordinate, side) + small_product(w, span)
+}
+
+/// Whether a number lies within another one of zero.
+fn is_within(number: i128, most: i64) -> bool
+    ensures { IsTrue result → (neg_ℤ most ≤ℤ number) × (number ≤ℤ most) }
+{
+    -i128::from(most) <= number && number <= i128::from(most)
 }
 
 impl Point {
@@ -126,6 +135,57 @@ impl Edge {
             long_product(self.y, point.y),
             long_product(self.d, point.d),
         )
+    }
+
+    /// Whether its coefficients are so small that its values at centres fit in 64 bits.
+    pub fn is_small(&self) -> bool
+        requires { IsNearEdge self.now }
+        ensures { IsTrue result → IsSmallEdge self.now }
+    {
+        all_of(
+            is_within(self.x, 1125899906842624),
+            is_within(self.y, 1125899906842624),
+            is_within(self.d, 1152921504606846976),
+        )
+    }
+
+    /// The value of a small edge at a centre.
+    pub fn small_at(&self, point: &Point) -> i64
+        requires edge { IsSmallEdge self.now }
+        requires point { IsNearCentre point.now }
+        ensures value { result ≡ value_at (edge_seen self.now) (point_seen point.now) }
+        ensures near { IsWithin (2 ^ 62) result }
+    {
+        short_total(
+            short_product(self.x, point.x),
+            short_product(self.y, point.y),
+            short_product(self.d, point.d),
+        )
+    }
+
+    /// The columns of a span in which a small edge's test is passed, where its value in column 0 is this sum.
+    pub fn small_narrowed(&self, sum: i64, span: Span) -> Span
+        requires edge { IsSmallEdge self.now }
+        requires sum { IsWithin (2 ^ 62) sum }
+        requires span { IsSpan span }
+        ensures span { IsSpan result }
+        ensures end { result.to ≤ℤ span.to }
+        ensures exact { (k : ℤ) → IsIn result k
+            ↔ (IsIn span k × IsTrue (passes_in self.now sum k)) }
+    {
+        let across = self.x as i64;
+        if across > 0 {
+            span.starting(small_first_not_below_zero(sum, 2 * across))
+        } else if across < 0 {
+            span.ending(small_first_not_below_zero(-sum, -2 * across))
+        } else if self.passes(i128::from(sum)) {
+            span
+        } else {
+            Span {
+                from: span.to,
+                to: span.to,
+            }
+        }
     }
 
     /// The columns of a span in which the edge's test is passed, where its value in column 0 is this sum.

@@ -21,7 +21,7 @@ fn row_of(point: &Point) -> i32
     if point.d <= 0 {
         return 0;
     }
-    let row = i128::from(point.y).div_euclid(i128::from(point.d));
+    let row = point.y.div_euclid(point.d);
     if row <= 0 {
         0
     } else if row < 255 {

@@ -3,9 +3,9 @@
 ghost use Rattle.std.specs.Prelude.{◌≡◌, ◌^◌, ◌+ℤ◌, ◌<ℤ◌, ◌≤ℤ◌, neg_ℤ, pos, All, IsTrue, Some};
 ghost use Rattle.triangle_raster.specs.Vertex.{AreCorners, IsWithin};
 ghost use Rattle.triangle_raster.specs.Pixel.{depth_of, is_kept, kept_fragment, means};
-ghost use Rattle.triangle_raster.specs.Held.{depth_at, sums_seen, AreNearSums, AreNotNegative};
+ghost use Rattle.triangle_raster.specs.Held.{depth_at, even_depth, sums_seen, AreNearSums, AreNotNegative};
 
-use crate::arithmetic::{all_of, quotient};
+use crate::arithmetic::{all_of, quotient, small_quotient};
 use crate::sums::Sums;
 use crate::vertex::Vertex;
 
@@ -75,6 +75,40 @@ pub fn depth_at(corners: &[Vertex; 3], sums: &Sums) -> Option<u16>
     let w = sums.weighted(corners[0].w, corners[1].w, corners[2].w);
     if is_between(z, w) {
         Some(depth(z, w))
+    } else {
+        None
+    }
+}
+
+/// Whether a corner's w is above zero, and its z lies from -w to w.
+fn is_corner_between(z: i32, w: i32) -> bool
+    requires z { IsWithin (2 ^ 27) z }
+    requires w { IsWithin (2 ^ 27) w }
+    ensures test { result ≡ is_kept z w }
+    ensures between { IsTrue result → (pos 0 <ℤ w) × (neg_ℤ w ≤ℤ z) × (z ≤ℤ w) }
+{
+    all_of(w > 0, -w <= z, z <= w)
+}
+
+/// The depth of a corner.
+fn corner_depth(z: i32, w: i32) -> u16
+    requires near { IsWithin (2 ^ 27) w }
+    requires positive { pos 0 <ℤ w }
+    requires from_near { neg_ℤ w ≤ℤ z }
+    requires to_far { z ≤ℤ w }
+    ensures { result ≡ depth_of z w }
+{
+    small_quotient((z as i64 + w as i64) * 65535, 2 * w as i64) as u16
+}
+
+/// The depth of the covered points of corners with one z and one w, or None where they aren't kept.
+pub fn even_depth(z: i32, w: i32) -> Option<u16>
+    requires z { IsWithin (2 ^ 27) z }
+    requires w { IsWithin (2 ^ 27) w }
+    ensures { result ≡ even_depth z w }
+{
+    if is_corner_between(z, w) {
+        Some(corner_depth(z, w))
     } else {
         None
     }

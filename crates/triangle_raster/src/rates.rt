@@ -1,7 +1,7 @@
 //! What is found once a triangle of how depth and values go on from column to column.
 
 ghost use Rattle.std.specs.Prelude.{◌≡◌, ◌≤◌, ◌<◌, ℕ, length, IsTrue};
-ghost use Rattle.triangle_raster.specs.Held.{AreRates, AreSameFrom, HaveTenValues, IsShape};
+ghost use Rattle.triangle_raster.specs.Held.{AreRates, AreSameFrom, HaveTenValues, IsLevel, IsShape};
 ghost use Rattle.triangle_raster.specs.Ranges.{number_at};
 
 use crate::shape::Shape;
@@ -59,6 +59,9 @@ impl Rates {
     {
         let level = shape.is_level();
         let moving = moving_of(&shape.corners);
+        if level && moving == 0 {
+            return Rates::without_steps(shape, level, moving);
+        }
         match Steps::of_shape(shape, moving) {
             Some(steps) => Rates {
                 level,
@@ -66,12 +69,31 @@ impl Rates {
                 carried: true,
                 steps,
             },
-            None => Rates {
-                level,
-                moving,
-                carried: false,
-                steps: Steps::none(),
-            },
+            None => Rates::without_steps(shape, level, moving),
         }
+    }
+
+    /// The same where nothing is carried.
+    fn without_steps(shape: &Shape, level: bool, moving: usize) -> Rates
+        requires level { IsTrue level → IsLevel shape.now }
+        requires moving { moving ≤ 10 }
+        requires ten { HaveTenValues shape.now.corners }
+        requires same { AreSameFrom shape.now.corners moving }
+        ensures { AreRates shape.now result }
+    {
+        Rates {
+            level,
+            moving,
+            carried: false,
+            steps: Steps::none(),
+        }
+    }
+
+    /// Whether depth and values are known to be the same in every column of a row.
+    pub fn are_alike(&self) -> bool
+        ensures level { IsTrue result → IsTrue self.now.level }
+        ensures still { IsTrue result → self.now.moving ≡ 0 }
+    {
+        self.level && self.moving == 0
     }
 }

@@ -3,12 +3,13 @@
 ghost use Rattle.std.specs.Prelude.{◌≡◌, ℤ, ◌<ℤ◌, ◌≤ℤ◌, ◌↔◌, pos, None, IsNone, IfSome, IsTrue};
 ghost use Rattle.triangle_raster.specs.Vertex.{AreCorners, IsArea, IsFromTo, IsView};
 ghost use Rattle.triangle_raster.specs.Pixel.{delta_of, pixel_of};
-ghost use Rattle.triangle_raster.specs.Row.{fragments_of, triangle_of};
+ghost use Rattle.triangle_raster.specs.Row.{fragments_of, run_of, triangle_of};
 
 use crate::edge::Point;
 use crate::extent::{Extent, bottom_of, top_of};
 use crate::rates::Rates;
 use crate::row::Row;
+use crate::run::Run;
 use crate::shape::Shape;
 use crate::vertex::{Area, Vertex, View};
 use std::marker::Model;
@@ -56,8 +57,8 @@ impl Setup {
         self.shape.counter_clockwise
     }
 
-    /// The rows of the area in which there may be fragments: those between the lowest corner and the highest, where all
-    /// stand before the eye, and else all of the area. Own.
+    /// The rows of the area in which there may be fragments. Where all corners stand before the eye they are those from the row of
+    /// the lowest corner to that of the highest, and else as many as all of the area. Own.
     pub fn rows(&self) -> Extent
         ensures bottom { self.now.area.bottom ≤ℤ result.bottom }
         ensures top { result.top ≤ℤ self.now.area.top }
@@ -75,6 +76,18 @@ impl Setup {
         let bottom = bottom_of(&one, &two, &three, self.area.bottom);
         let top = top_of(&one, &two, &three, self.area.top);
         Extent { bottom, top }
+    }
+
+    /// All fragments of row y, where depth and values are known to be the same in every column of each row; None where that isn't
+    /// known, and where y lies outside the area. Own.
+    pub fn run(&self, y: i32) -> Option<Run>
+        ensures { IfSome result (λ run. fragments_of self.now y ≡ run_of run.first run.count) }
+    {
+        let area = self.area;
+        if !self.rates.are_alike() || !area.has_row(y) {
+            return None;
+        }
+        Some(Run::from_column(&self.shape, y, area.left, area.width()))
     }
 
     /// The fragments of row y, in rising x; none where y lies outside the area. Section 3.5.1 of OpenGL ES 1.1.12, the order

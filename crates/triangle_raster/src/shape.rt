@@ -21,6 +21,7 @@ pub struct Shape {
     pub two: Edge,
     pub three: Edge,
     pub counter_clockwise: bool,
+    pub small: bool,
 }
 
 impl Shape {
@@ -43,13 +44,21 @@ impl Shape {
         if delta == 0 {
             return None;
         }
+        let first_edge = one.inward(delta);
+        let second_edge = two.inward(delta);
+        let third_edge = three.inward(delta);
         Some(Shape {
             corners: *corners,
             view,
-            one: one.inward(delta),
-            two: two.inward(delta),
-            three: three.inward(delta),
+            one: first_edge,
+            two: second_edge,
+            three: third_edge,
             counter_clockwise: delta > 0,
+            small: all_of(
+                first_edge.is_small(),
+                second_edge.is_small(),
+                third_edge.is_small(),
+            ),
         })
     }
 
@@ -70,7 +79,7 @@ impl Shape {
     }
 
     /// The columns in which the triangle covers the centre, out of so many from the one with these sums on.
-    pub fn span(&self, sums: &Sums, count: u32) -> Span
+    fn span(&self, sums: &Sums, count: u32) -> Span
         requires shape { IsShape self.now }
         requires near { AreNearSums sums.now }
         requires count { count ≤ 256 }
@@ -86,6 +95,47 @@ impl Shape {
         let one = self.one.narrowed(sums.one, all);
         let two = self.two.narrowed(sums.two, one);
         self.three.narrowed(sums.three, two)
+    }
+
+    /// The same out of so many from column x of row y on, where the edges are small.
+    fn small_span(&self, x: i32, y: i32, count: u32) -> Span
+        requires shape { IsShape self.now }
+        requires small { IsTrue self.now.small }
+        requires x { IsFromTo (pos 0) (pos 256) x }
+        requires y { IsFromTo (pos 0) (pos 256) y }
+        requires count { count ≤ 256 }
+        ensures span { IsSpan result }
+        ensures end { result.to ≤ℤ pos count }
+        ensures exact { (k : ℤ) → IsIn result k ↔ IsCoveredAmong self.now x y count k }
+    {
+        let centre = Point::of_centre(x, y);
+        let all = Span {
+            from: 0,
+            to: count as i32,
+        };
+        let first = self.one.small_at(&centre);
+        let second = self.two.small_at(&centre);
+        let third = self.three.small_at(&centre);
+        let one = self.one.small_narrowed(first, all);
+        let two = self.two.small_narrowed(second, one);
+        self.three.small_narrowed(third, two)
+    }
+
+    /// The columns in which the triangle covers the centre, out of so many from column x of row y on.
+    pub fn span_at(&self, x: i32, y: i32, count: u32) -> Span
+        requires shape { IsShape self.now }
+        requires x { IsFromTo (pos 0) (pos 256) x }
+        requires y { IsFromTo (pos 0) (pos 256) y }
+        requires count { count ≤ 256 }
+        ensures span { IsSpan result }
+        ensures end { result.to ≤ℤ pos count }
+        ensures exact { (k : ℤ) → IsIn result k ↔ IsCoveredAmong self.now x y count k }
+    {
+        if self.small {
+            return self.small_span(x, y, count);
+        }
+        let sums = self.sums_at(x, y);
+        self.span(&sums, count)
     }
 
     /// The values of the edges one column further.

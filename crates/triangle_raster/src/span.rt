@@ -6,7 +6,7 @@ ghost use Rattle.std.specs.Int.{int_max, int_min};
 ghost use Rattle.triangle_raster.specs.Vertex.{IsWithin};
 ghost use Rattle.triangle_raster.specs.Held.{IsIn, IsSpan};
 
-use crate::arithmetic::quotient;
+use crate::arithmetic::{quotient, small_quotient};
 
 /// Columns from one to before another, counted from the first column of a row in the area.
 #[derive(Clone, Copy)]
@@ -22,6 +22,15 @@ pub fn first_not_below_zero(sum: i128, step: i128) -> i128
     ensures { (k : ℤ) → (pos 0 ≤ℤ (sum +ℤ step *ℤ k)) ↔ (result ≤ℤ k) }
 {
     -quotient(sum, step)
+}
+
+/// The same of a sum of 64 bits.
+pub fn small_first_not_below_zero(sum: i64, step: i64) -> i128
+    requires sum { IsWithin (2 ^ 62) sum }
+    requires step { pos 0 <ℤ step }
+    ensures { (k : ℤ) → (pos 0 ≤ℤ (sum +ℤ step *ℤ k)) ↔ (result ≤ℤ k) }
+{
+    -i128::from(small_quotient(sum, step))
 }
 
 /// The nearest number from low to high.
