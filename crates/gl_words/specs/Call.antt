@@ -98,6 +98,15 @@ row_of (gl.Scalex x y z) = does 53 (codes "Scalex") (Fixed ∷ Fixed ∷ Fixed �
 row_of (gl.Scissor x y width height) = does 54 (codes "Scissor") (Int ∷ Int ∷ Int ∷ Int ∷ []) gl.Scissor (x & y & width & height & tt)
 row_of (gl.ShadeModel mode) = does 55 (codes "ShadeModel") (Enum ∷ []) gl.ShadeModel (mode & tt)
 row_of (gl.TexCoordPointer size kind stride pointer) = does 56 (codes "TexCoordPointer") (Int ∷ Enum ∷ Int ∷ Pointer ∷ []) gl.TexCoordPointer (size & kind & stride & pointer & tt)
+row_of (gl.TexEnvi target pname param) = does 57 (codes "TexEnvi") (Enum ∷ Enum ∷ Int ∷ []) gl.TexEnvi (target & pname & param & tt)
+row_of (gl.TexEnvxv target pname params) = does 58 (codes "TexEnvxv") (Enum ∷ Enum ∷ Pointer ∷ []) gl.TexEnvxv (target & pname & params & tt)
+row_of (gl.TexImage2D target level internalformat width height border format kind pixels) =
+    does 59 (codes "TexImage2D") (Enum ∷ Int ∷ Int ∷ Int ∷ Int ∷ Int ∷ Enum ∷ Enum ∷ Pointer ∷ []) gl.TexImage2D
+    (target & level & internalformat & width & height & border & format & kind & pixels & tt)
+row_of (gl.TexParameteri target pname param) = does 60 (codes "TexParameteri") (Enum ∷ Enum ∷ Int ∷ []) gl.TexParameteri (target & pname & param & tt)
+row_of (gl.TexSubImage2D target level xoffset yoffset width height format kind pixels) =
+    does 61 (codes "TexSubImage2D") (Enum ∷ Int ∷ Int ∷ Int ∷ Int ∷ Int ∷ Enum ∷ Enum ∷ Pointer ∷ []) gl.TexSubImage2D
+    (target & level & xoffset & yoffset & width & height & format & kind & pixels & tt)
 row_of (gl.Translatex x y z) = does 62 (codes "Translatex") (Fixed ∷ Fixed ∷ Fixed ∷ []) gl.Translatex (x & y & z & tt)
 row_of (gl.VertexPointer size kind stride pointer) = does 63 (codes "VertexPointer") (Int ∷ Enum ∷ Int ∷ Pointer ∷ []) gl.VertexPointer (size & kind & stride & pointer & tt)
 row_of (gl.Viewport x y width height) = does 64 (codes "Viewport") (Int ∷ Int ∷ Int ∷ Int ∷ []) gl.Viewport (x & y & width & height & tt)
@@ -161,6 +170,11 @@ each_call =
     gl.Scissor (pos 0) (pos 0) (pos 0) (pos 0) ∷
     gl.ShadeModel 0 ∷
     gl.TexCoordPointer (pos 0) 0 (pos 0) 0 ∷
+    gl.TexEnvi 0 0 (pos 0) ∷
+    gl.TexEnvxv 0 0 0 ∷
+    gl.TexImage2D 0 (pos 0) (pos 0) (pos 0) (pos 0) (pos 0) 0 0 0 ∷
+    gl.TexParameteri 0 0 (pos 0) ∷
+    gl.TexSubImage2D 0 (pos 0) (pos 0) (pos 0) (pos 0) (pos 0) 0 0 0 ∷
     gl.Translatex (pos 0) (pos 0) (pos 0) ∷
     gl.VertexPointer (pos 0) 0 (pos 0) 0 ∷
     gl.Viewport (pos 0) (pos 0) (pos 0) (pos 0) ∷

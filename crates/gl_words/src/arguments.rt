@@ -46,9 +46,9 @@ macro_rules! filled {
 }
 
 macro_rules! listed {
-    (($call:ident) $($part:ident $id:literal $($name:ident { $($field:ident: $kind:ident),* })?;)*) => {
+    (($call:ident) $($part:ident $id:literal $name:ident { $($field:ident: $kind:ident),* };)*) => {
         match &$call {
-            $($(Call::$name { $($field),* } => filled!([] { $($field)* } (0 1 2 3 4 5 6 7 8 9)),)?)*
+            $(Call::$name { $($field),* } => filled!([] { $($field)* } (0 1 2 3 4 5 6 7 8 9)),)*
         }
     };
 }

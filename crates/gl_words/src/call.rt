@@ -288,6 +288,49 @@ pub enum Call {
         stride: i32,
         pointer: u32,
     },
+    /// Sets how the active unit combines a texel with the colour: ADD, BLEND, DECAL, MODULATE or REPLACE (section 3.7.12).
+    TexEnvi {
+        target: u32,
+        pname: u32,
+        param: i32,
+    },
+    /// Sets the constant colour of the active unit: four numbers in client memory, 16.16 fixed (section 3.7.12).
+    TexEnvxv {
+        target: u32,
+        pname: u32,
+        params: u32,
+    },
+    /// Gives the texture of the active unit a new image: its format, its sides in texels, and its bytes in client memory, or
+    /// zeros where the address is 0 (section 3.7.1).
+    TexImage2D {
+        target: u32,
+        level: i32,
+        internalformat: i32,
+        width: i32,
+        height: i32,
+        border: i32,
+        format: u32,
+        kind: u32,
+        pixels: u32,
+    },
+    /// Sets how the texture of the active unit is looked up: a filter, or how coordinates wrap (section 3.7.4).
+    TexParameteri {
+        target: u32,
+        pname: u32,
+        param: i32,
+    },
+    /// Writes a rectangle of texels from client memory over those of the image of the active unit's texture (section 3.7.2).
+    TexSubImage2D {
+        target: u32,
+        level: i32,
+        xoffset: i32,
+        yoffset: i32,
+        width: i32,
+        height: i32,
+        format: u32,
+        kind: u32,
+        pixels: u32,
+    },
     /// Multiplies the current matrix by a translation, 16.16 fixed (section 2.10.2).
     Translatex {
         x: i32,

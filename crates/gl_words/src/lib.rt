@@ -18,6 +18,6 @@ pub use error::GlError;
 pub use laws::call_law;
 pub use lookup::shape_of_name;
 pub use making::{call_from, call_in, low_bits};
-pub use names::number_of_enum;
+pub use names::{Name, names_by_length, number_of_enum};
 pub use shape::{ArgKind, Shape};
-pub use table::{TableRow, call_id, call_name, is_answering, row_of};
+pub use table::{TableRow, call_id, call_name, is_answering, row_numbered, row_of};

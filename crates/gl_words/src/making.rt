@@ -120,9 +120,9 @@ macro_rules! made_call {
 }
 
 macro_rules! remade {
-    (($call:ident $args:ident) $($part:ident $id:literal $($name:ident { $($field:ident: $kind:ident),* })?;)*) => {
+    (($call:ident $args:ident) $($part:ident $id:literal $name:ident { $($field:ident: $kind:ident),* };)*) => {
         match $call {
-            $($(Call::$name { .. } => made_call!($args $name [] { $($field: $kind),* } (0 1 2 3 4 5 6 7 8)),)?)*
+            $(Call::$name { .. } => made_call!($args $name [] { $($field: $kind),* } (0 1 2 3 4 5 6 7 8)),)*
         }
     };
 }

@@ -7,8 +7,8 @@ ghost use Rattle.gl_words.specs.Lookup.{seen_names, found_in};
 
 use crate::lookup::of_length;
 
-/// A name, without the prefix `GL_`, and its number.
-pub(crate) struct Name(&'static str, u32);
+/// A name, without the prefix `GL_`, and its number: that of OpenGL ES 1.1.12; the choice of names is own.
+pub struct Name(pub &'static str, pub u32);
 
 /// The names with each length, from 0 bytes on, so that a word is compared with no name of another length.
 static NAMES: [&[Name]; 35] = [
@@ -210,7 +210,8 @@ pub fn number_of_enum(name: &str) -> Option<u32>
     number_in(of_length(names_by_length(), name.len()), name)
 }
 
-fn names_by_length() -> &'static [&'static [Name]]
+/// The names by their lengths in bytes, from 0 on, each group in the order in which its names are compared; own.
+pub fn names_by_length() -> &'static [&'static [Name]]
     ensures { AreGroups result.now }
 {
     &NAMES

@@ -10,8 +10,8 @@ ghost use Rattle.gl_words.specs.declared.call.Call.{Call};
 use crate::call::Call;
 use crate::shape::ArgKind;
 
-/// Hands each row to another macro: the part of the table in which it stands (`asks` for calls that are answered,
-/// `none` for a number that no call has yet), the number, the name, and each argument with its kind.
+/// Hands each row to another macro: the part of the table in which it stands (`asks` for calls that are answered, `does`
+/// for the others), the number, the name, and each argument with its kind.
 macro_rules! rows {
     ($then:ident($($given:tt)*)) => {
         $then! { ($($given)*)
@@ -71,11 +71,11 @@ macro_rules! rows {
             does 54 Scissor { x: Int, y: Int, width: Int, height: Int };
             does 55 ShadeModel { mode: Enum };
             does 56 TexCoordPointer { size: Int, kind: Enum, stride: Int, pointer: Pointer };
-            none 57;
-            none 58;
-            none 59;
-            none 60;
-            none 61;
+            does 57 TexEnvi { target: Enum, pname: Enum, param: Int };
+            does 58 TexEnvxv { target: Enum, pname: Enum, params: Pointer };
+            does 59 TexImage2D { target: Enum, level: Int, internalformat: Int, width: Int, height: Int, border: Int, format: Enum, kind: Enum, pixels: Pointer };
+            does 60 TexParameteri { target: Enum, pname: Enum, param: Int };
+            does 61 TexSubImage2D { target: Enum, level: Int, xoffset: Int, yoffset: Int, width: Int, height: Int, format: Enum, kind: Enum, pixels: Pointer };
             does 62 Translatex { x: Fixed, y: Fixed, z: Fixed };
             does 63 VertexPointer { size: Int, kind: Enum, stride: Int, pointer: Pointer };
             does 64 Viewport { x: Int, y: Int, width: Int, height: Int };
@@ -107,7 +107,6 @@ macro_rules! zero {
 }
 
 macro_rules! row {
-    (none $id:literal) => { None };
     ($part:ident $id:literal $name:ident { $($field:ident: $kind:ident),* }) => {
         Some(TableRow {
             id: $id,
@@ -120,12 +119,12 @@ macro_rules! row {
 }
 
 macro_rules! listed {
-    (() $($part:ident $id:literal $($name:ident { $($field:ident: $kind:ident),* })?;)*) => {
-        [None, $(row!($part $id $($name { $($field: $kind),* })?)),*]
+    (() $($part:ident $id:literal $name:ident { $($field:ident: $kind:ident),* };)*) => {
+        [None, $(row!($part $id $name { $($field: $kind),* })),*]
     };
 }
 
-/// A row stands at the place of its number.
+/// A row stands at the place of its number; no call has the number 0.
 static ROWS: [Option<TableRow>; 65] = rows!(listed());
 
 /// The rows, each at the place of its number.
@@ -135,8 +134,8 @@ pub(crate) fn table() -> &'static [Option<TableRow>]
     &ROWS
 }
 
-/// The row with this number. None exactly where no call has the number.
-pub(crate) fn row_numbered(id: u16) -> Option<&'static TableRow>
+/// The row with this number; own. None exactly where no call has the number.
+pub fn row_numbered(id: u16) -> Option<&'static TableRow>
     ensures { MatchOption result (call_numbered id ≡ None)
         (λ row. (call : Call) × (call_numbered id ≡ Some call) × (told_by row.now ≡ told call)) }
 {
@@ -156,12 +155,12 @@ fn row_in<'a>(rows: &'a [Option<TableRow>], id: u16) -> Option<&'a TableRow>
 }
 
 macro_rules! numbers {
-    (($call:ident) $($part:ident $id:literal $($name:ident { $($field:ident: $kind:ident),* })?;)*) => {
+    (($call:ident) $($part:ident $id:literal $name:ident { $($field:ident: $kind:ident),* };)*) => {
         match &$call {
-            $($(Call::$name { $($field),* } => {
+            $(Call::$name { $($field),* } => {
                 $(let _read = *$field;)*
                 $id
-            })?)*
+            })*
         }
     };
 }
