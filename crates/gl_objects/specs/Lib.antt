@@ -1,6 +1,9 @@
+pub mod Sampling
+pub mod Image
 pub mod View
 pub mod Table
 pub mod Store
+pub mod Textures
 pub mod Event
 pub mod Step
 pub mod History

@@ -1,29 +1,23 @@
 -- What an event makes of the objects that contexts share, and what it replies.
-use Rattle.std.specs.Prelude.{ℕ, ◌+◌, Bool, false, if◌then◌else◌, nat_le, nat_lt, ◌&&◌, List, [], length, is_some, slice_index, Option, Some, None}
+use Rattle.std.specs.Prelude.{ℕ, ◌+◌, Bool, false, if◌then◌else◌, nat_lt, List, [], ◌∷◌, length, is_some, slice_index, Option, Some, None}
 use Rattle.gl_words.specs.declared.error.GlError.{GlError}
 use Rattle.gl_words.specs.declared.error.GlError.TheVariants.{OutOfMemory}
+use Rattle.texture_units.specs.Texture.{rectangle_of}
 use Rattle.gl_objects.specs.declared.kind.Kind.TheVariants as kinds
 use Rattle.gl_objects.specs.declared.event.Event.{Event}
 use Rattle.gl_objects.specs.declared.event.Event.TheVariants as ev
 use Rattle.gl_objects.specs.declared.reply.EventReply.{EventReply}
 use Rattle.gl_objects.specs.declared.named.Named.{Named}
 use Rattle.gl_objects.specs.declared.named.Named.TheVariants.{Object}
-use Rattle.gl_objects.specs.declared.texture.Texture.{Texture}
 use Rattle.gl_objects.specs.View.{ObjectsView}
 use Rattle.gl_objects.specs.Table.{object_in, put, bound, least_free, given, without}
-use Rattle.gl_objects.specs.Store.{store_in, part_written, bytes_fault, part_fault}
+use Rattle.gl_objects.specs.Store.{store_in, part_written, part_fault}
+use Rattle.gl_objects.specs.Image.{new_texture, with_image, with_image_part, with_parameter_set}
+use Rattle.gl_objects.specs.Textures.{is_default, texture_or_new, with_texture, bytes_fault, image_fault, image_part_fault, parameter_fault}
 
--- before the first event no name is in use
+-- before the first event no name is in use, and nothing was put into the default textures
 abbrev pub no_objects : ObjectsView
-no_objects = record { buffers = []; textures = [] }
-
--- a texture that nothing was put into; own
-abbrev pub new_texture : Texture
-new_texture = record {}
-
--- the names of the default textures, one a context: they exist always; own
-abbrev pub is_default : ℕ → Bool
-is_default name = nat_le 4294967296 name && nat_lt name 4294967300
+no_objects = record { buffers = []; textures = []; defaults = new_texture ∷ new_texture ∷ new_texture ∷ new_texture ∷ [] }
 
 -- the byte of a buffer's store at a place: 0 past its end, and where the name is that of no buffer; own
 abbrev pub byte_in : ObjectsView → ℕ → ℕ → ℕ
@@ -35,13 +29,16 @@ names_fault table n = if nat_lt 65536 (length table + n) then Some OutOfMemory e
 
 -- why an event changes nothing
 abbrev pub fault_of : ObjectsView → Event → Option GlError
-fault_of objects (ev.BufferBytes name bytes) = bytes_fault objects.buffers name (length bytes)
+fault_of objects (ev.BufferBytes name bytes) = bytes_fault objects name (length bytes)
 fault_of objects (ev.BufferPart name offset bytes) = part_fault objects.buffers name offset (length bytes)
+fault_of objects (ev.Image name format width height bytes) = image_fault objects name (length bytes)
+fault_of objects (ev.ImagePart name format x y width height bytes) = image_part_fault objects name x y (rectangle_of format width height bytes)
+fault_of objects (ev.Parameter name pname value) = parameter_fault objects name
 fault_of objects (ev.Gen kinds.Buffer n) = names_fault objects.buffers n
 fault_of objects (ev.Gen kinds.Texture n) = names_fault objects.textures n
 fault_of objects _ = None
 
--- the objects after an event without a fault (section 2.9 for buffers, 3.7.11 for textures)
+-- the objects after an event without a fault (section 2.9 for buffers, 3.7.1, 3.7.2, 3.7.4 and 3.7.11 for textures)
 abbrev pub changed : ObjectsView → Event → ObjectsView
 changed objects (ev.Bind kinds.Buffer name) = record objects { buffers = bound [] name objects.buffers }
 changed objects (ev.Bind kinds.Texture name) =
@@ -49,6 +46,12 @@ changed objects (ev.Bind kinds.Texture name) =
 changed objects (ev.BufferBytes name bytes) = record objects { buffers = put name (Object bytes) objects.buffers }
 changed objects (ev.BufferPart name offset bytes) =
     record objects { buffers = put name (Object (part_written (store_in objects.buffers name) offset bytes)) objects.buffers }
+changed objects (ev.Image name format width height bytes) =
+    with_texture name (with_image (rectangle_of format width height bytes) (texture_or_new objects name)) objects
+changed objects (ev.ImagePart name format x y width height bytes) =
+    with_texture name (with_image_part x y (rectangle_of format width height bytes) (texture_or_new objects name)) objects
+changed objects (ev.Parameter name pname value) =
+    with_texture name (with_parameter_set pname value (texture_or_new objects name)) objects
 changed objects (ev.Gen kinds.Buffer n) = record objects { buffers = given (least_free objects.buffers n) objects.buffers }
 changed objects (ev.Gen kinds.Texture n) = record objects { textures = given (least_free objects.textures n) objects.textures }
 changed objects (ev.Delete kinds.Buffer names) = record objects { buffers = without names objects.buffers }

@@ -1,10 +1,10 @@
--- The bytes of buffers (section 2.9), and why they can't be changed. Nothing of copying stands here.
-use Rattle.std.specs.Prelude.{ℕ, ◌+◌, ◌-◌, if◌then◌else◌, nat_lt, List, [], ◌++◌, length, take, drop, is_some, Option, Some, None}
+-- The bytes of buffers (section 2.9), and why a part of them can't be replaced. Nothing of copying stands here.
+use Rattle.std.specs.Prelude.{ℕ, ◌+◌, if◌then◌else◌, nat_lt, List, [], ◌++◌, length, take, drop, is_some, Option, Some, None}
 use Rattle.std.specs.Option.{unwrap_or}
 use Rattle.gl_words.specs.declared.error.GlError.{GlError}
-use Rattle.gl_words.specs.declared.error.GlError.TheVariants.{InvalidValue, InvalidOperation, OutOfMemory}
+use Rattle.gl_words.specs.declared.error.GlError.TheVariants.{InvalidValue, InvalidOperation}
 use Rattle.gl_objects.specs.declared.named.Named.{Named}
-use Rattle.gl_objects.specs.Table.{named, object_of, object_in, size_at, total}
+use Rattle.gl_objects.specs.Table.{named, object_of, object_in, size_at}
 
 -- the bytes of the buffer that is meant, and none where there is none (section 2.9)
 abbrev pub store_of : Option (Named (List ℕ)) → List ℕ
@@ -18,12 +18,6 @@ store_in buffers name = store_of (named buffers name)
 -- (section 2.9)
 unfoldable pub part_written : List ℕ → ℕ → List ℕ → List ℕ
 part_written store offset bytes = take offset store ++ (bytes ++ drop (length bytes) (drop offset store))
-
--- why a store can't become so many bytes: the name is that of no buffer (section 2.9), or all bytes, with the new ones in
--- place of the old, are more than 67108864; own
-abbrev pub bytes_fault : List (ℕ × Named (List ℕ)) → ℕ → ℕ → Option GlError
-bytes_fault buffers name count =
-    if is_some (object_in buffers name) then (if nat_lt 67108864 (total length buffers - size_at length buffers name + count) then Some OutOfMemory else None) else Some InvalidOperation
 
 -- why so many bytes can't be written over a part of a store: the name is that of no buffer, or the part's end lies past
 -- the store (section 2.9)

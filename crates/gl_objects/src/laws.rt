@@ -3,7 +3,7 @@
 ghost use Rattle.std.specs.Prelude.{◌≡◌, ℕ, List};
 ghost use Rattle.gl_objects.specs.declared.event.Event.{Event};
 ghost use Rattle.gl_objects.specs.declared.named.Named.{Named};
-ghost use Rattle.gl_objects.specs.declared.texture.Texture.{Texture};
+ghost use Rattle.gl_objects.specs.declared.texture.TextureObject.{TextureObject};
 ghost use Rattle.gl_objects.specs.View.{ObjectsView};
 ghost use Rattle.gl_objects.specs.History.{Entry, changes, objects_after, LegalFrom};
 ghost use Rattle.gl_objects.specs.Laws.{SplitsLegally, AreLeastFree, WritesPart};
@@ -23,7 +23,7 @@ pub fn legal_law()
 /// So many names are given as were asked for, each in use nowhere (section 2.9).
 pub fn names_law()
     ensures buffers { (table : List (ℕ × Named (List ℕ))) (n : ℕ) → AreLeastFree table n }
-    ensures textures { (table : List (ℕ × Named Texture)) (n : ℕ) → AreLeastFree table n }
+    ensures textures { (table : List (ℕ × Named TextureObject)) (n : ℕ) → AreLeastFree table n }
 {}
 
 /// After bytes were written over a part of a store, its places have them, and every other place of a store its own byte.

@@ -33,6 +33,13 @@ impl Upload {
     {
         self.bytes.as_slice()
     }
+
+    /// The bytes themselves: nothing is copied.
+    pub(crate) fn into_bytes(self) -> Vec<u8>
+        ensures { result.items ≡ self }
+    {
+        self.bytes
+    }
 }
 
 /// Names that are given or deleted, or are a reply; own. Contracts see the list.

@@ -1,17 +1,19 @@
 //! The objects that contexts share, and what an event makes of them.
 
-ghost use Rattle.std.specs.Prelude.{◌≡◌, true, false, None, IfOk, OnOk, OnErr, IsOk, IsErr};
-ghost use Rattle.gl_objects.specs.Event.{IsEvent, is_asking};
+ghost use Rattle.std.specs.Prelude.{◌≡◌, ◌^◌, ◌≤◌, false, length, None, IfOk, OnOk, OnErr, IsOk, IsErr};
+ghost use Rattle.gl_objects.specs.Event.{IsEvent, wants_memory};
 ghost use Rattle.gl_objects.specs.Step.{no_objects, step, reply_of, fault_of, byte_in};
+ghost use Rattle.gl_objects.specs.Textures.{bytes_fault};
 
 use crate::event::Event;
+use crate::images::is_default;
 use crate::kind::Kind;
 use crate::lists::Names;
 use crate::named::Named;
 use crate::reply::{EventReply, told};
 use crate::store::Store;
 use crate::table::Table;
-use crate::texture::Texture;
+use crate::texture::TextureObject;
 use gl_words::GlError;
 use std::alloc::{AllocError as NoMemory, Global};
 use std::marker::Model;
@@ -19,15 +21,14 @@ use std::marker::Model;
 /// The most names of a kind that are in use after some were given; own.
 const MOST_NAMES: u64 = 65536;
 
-/// The first of the names that default textures have; own.
-const DEFAULT_TEXTURE: u64 = 4294967296;
-
-/// All objects. Contracts see the names of each kind that are in use, with what they stand for.
+/// All objects. Contracts see the names of each kind that are in use, with what they stand for, and the default textures.
 #[derive(Drop)]
 pub struct Objects {
-    buffers: Table<Store>,
-    textures: Table<Texture>,
-    alloc: Global,
+    pub(crate) buffers: Table<Store>,
+    pub(crate) textures: Table<TextureObject>,
+    /// That of context k at place k. They lie here, so that they are there without memory.
+    pub(crate) defaults: [TextureObject; 4],
+    pub(crate) alloc: Global,
 }
 
 impl Model for Objects {
@@ -35,29 +36,36 @@ impl Model for Objects {
 
     ghost Value = { ObjectsView };
 
-    ghost view = { λ o. record { buffers = o.buffers; textures = o.textures } };
+    ghost view = { λ o. record { buffers = o.buffers; textures = o.textures; defaults = o.defaults } };
 }
 
 impl Objects {
-    /// No names in use, and the default texture of each context. It takes no memory, and keeps its allocator.
+    /// No names in use, and the default texture of each context, with nothing put in. It takes no memory, and keeps its allocator.
     pub fn new(alloc: Global) -> Objects
         ensures { result ≡ no_objects }
     {
         Objects {
             buffers: Table::new(alloc),
             textures: Table::new(alloc),
+            defaults: [
+                TextureObject::new(),
+                TextureObject::new(),
+                TextureObject::new(),
+                TextureObject::new(),
+            ],
             alloc,
         }
     }
 
-    /// Applies an event. After NoMemory the objects are as they were. `Is`, `Use` and an event with a fault take no memory and are
-    /// never refused (sections 2.5, 2.9, 3.7.11 and 6.1, that memory may be wanted own).
+    /// Applies an event. After NoMemory the objects are as they were. Only `Bind`, `BufferBytes`, `Image` and `Gen` take memory and
+    /// may be refused, and not where they have a fault (sections 2.5, 2.9, 3.7.1, 3.7.2, 3.7.4, 3.7.11 and 6.1, that memory may be
+    /// wanted own).
     pub fn apply(&mut self, event: &Event) -> Result<EventReply, NoMemory>
         requires event { IsEvent event.now }
         ensures reply { IfOk result (λ reply. reply ≡ reply_of self.old event.now) }
         ensures ok { OnOk result (self.new ≡ step self.old event.now) }
         ensures err { OnErr result (self.new ≡ self.old) }
-        ensures asks { is_asking event.now ≡ true → IsOk result }
+        ensures asks { wants_memory event.now ≡ false → IsOk result }
         ensures faults { IsErr result → fault_of self.old event.now ≡ None }
     {
         match event {
@@ -68,10 +76,44 @@ impl Objects {
                 offset,
                 bytes,
             } => Ok(self.buffer_part(*name, *offset, bytes.as_slice())),
+            Event::Image {
+                name,
+                format,
+                width,
+                height,
+                bytes,
+            } => self.put_image(*name, *format, *width, *height, bytes.as_slice()),
+            Event::ImagePart {
+                name,
+                format,
+                x,
+                y,
+                width,
+                height,
+                bytes,
+            } => Ok(self.put_image_part(*name, *format, *x, *y, *width, *height, bytes.as_slice())),
+            Event::Parameter { name, pname, value } => {
+                Ok(self.set_parameter(*name, *pname, *value))
+            }
             Event::Gen { kind, n } => self.generate(*kind, *n),
             Event::Delete { kind, names } => Ok(self.delete(*kind, names.as_slice())),
             Event::Is { kind, name } => Ok(self.is(*kind, *name)),
             Event::Use { .. } => Ok(told(self.alloc, None, false)),
+        }
+    }
+
+    /// Applies an event as `apply` does, and takes it: the bytes of `BufferBytes` become the store themselves, and are not copied.
+    pub fn take(&mut self, event: Event) -> Result<EventReply, NoMemory>
+        requires event { IsEvent event }
+        ensures reply { IfOk result (λ reply. reply ≡ reply_of self.old event) }
+        ensures ok { OnOk result (self.new ≡ step self.old event) }
+        ensures err { OnErr result (self.new ≡ self.old) }
+        ensures asks { wants_memory event ≡ false → IsOk result }
+        ensures faults { IsErr result → fault_of self.old event ≡ None }
+    {
+        match event {
+            Event::BufferBytes { name, bytes } => self.take_bytes(name, bytes.into_bytes()),
+            event => self.apply(&event),
         }
     }
 
@@ -93,10 +135,10 @@ impl Objects {
                 Ok(told(self.alloc, None, false))
             }
             Kind::Texture => {
-                if name >= DEFAULT_TEXTURE && name < DEFAULT_TEXTURE + 4 {
+                if is_default(name) {
                     return Ok(told(self.alloc, None, false));
                 }
-                self.textures.bind(name, Texture)?;
+                self.textures.bind(name, TextureObject::new())?;
                 Ok(told(self.alloc, None, false))
             }
         }
@@ -109,16 +151,51 @@ impl Objects {
         ensures err { OnErr result (self.new ≡ self.old) }
         ensures faults { IsErr result → fault_of self.old (Event.BufferBytes name bytes.now) ≡ None }
     {
-        match self
-            .buffers
-            .bytes_fault(u64::from(name), bytes.len() as u64)
-        {
+        match self.bytes_fault(u64::from(name), bytes.len() as u64) {
             Some(fault) => Ok(told(self.alloc, Some(fault), false)),
             None => {
                 let store = Store::copied(self.alloc, bytes)?;
-                self.buffers.put(u64::from(name), Named::Object(store))?;
-                Ok(told(self.alloc, None, false))
+                self.put_store(name, store)
             }
+        }
+    }
+
+    /// `buffer_bytes`, of bytes that become the store themselves.
+    fn take_bytes(&mut self, name: u32, bytes: Vec<u8>) -> Result<EventReply, NoMemory>
+        ensures reply { IfOk result (λ reply. reply
+            ≡ reply_of self.old (Event.BufferBytes name bytes.items)) }
+        ensures ok { OnOk result (self.new ≡ step self.old (Event.BufferBytes name bytes.items)) }
+        ensures err { OnErr result (self.new ≡ self.old) }
+        ensures faults { IsErr result
+            → fault_of self.old (Event.BufferBytes name bytes.items) ≡ None }
+    {
+        match self.bytes_fault(u64::from(name), bytes.len() as u64) {
+            Some(fault) => Ok(told(self.alloc, Some(fault), false)),
+            None => self.put_store(name, Store::of(bytes)),
+        }
+    }
+
+    /// Lets a buffer's store be this one. After NoMemory the objects are as they were.
+    fn put_store(&mut self, name: u32, store: Store) -> Result<EventReply, NoMemory>
+        requires room { bytes_fault self.old name (length store) ≡ None }
+        ensures reply { IfOk result (λ reply. reply
+            ≡ reply_of self.old (Event.BufferBytes name store)) }
+        ensures ok { OnOk result (self.new ≡ step self.old (Event.BufferBytes name store)) }
+        ensures err { OnErr result (self.new ≡ self.old) }
+    {
+        self.buffers.put(u64::from(name), Named::Object(store))?;
+        Ok(told(self.alloc, None, false))
+    }
+
+    /// Why a buffer's store can't become so many bytes (section 2.9). None where it can.
+    fn bytes_fault(&self, name: u64, count: u64) -> Option<GlError>
+        requires count { count ≤ 2 ^ 63 }
+        ensures { result ≡ bytes_fault self.now name count }
+    {
+        if self.buffers.is_object(name) {
+            self.room_fault(self.buffers.size_at(name), count)
+        } else {
+            Some(GlError::InvalidOperation)
         }
     }
 

@@ -31,6 +31,13 @@ impl Store {
         }
     }
 
+    /// These bytes themselves. It takes no memory.
+    pub fn of(bytes: Vec<u8>) -> Store
+        ensures { result ≡ bytes.items }
+    {
+        Store { bytes }
+    }
+
     /// A copy of these bytes.
     pub fn copied(alloc: Global, bytes: &[u8]) -> Result<Store, NoMemory>
         ensures { IfOk result (λ store. store ≡ bytes.now) }

@@ -5,7 +5,7 @@ ghost use Rattle.std.specs.Option.{option_copied, option_map, unwrap_or};
 ghost use Rattle.std.specs.Ordering.{nat_cmp};
 ghost use Rattle.std.specs.Map.{set_value};
 ghost use Rattle.std.specs.BTreeMap.{is_at};
-ghost use Rattle.gl_objects.specs.Store.{part_written, store_of, store_in, bytes_fault, part_fault};
+ghost use Rattle.gl_objects.specs.Store.{part_written, store_of, store_in, part_fault};
 ghost use Rattle.gl_objects.specs.Table.{named, object_of, object_in, is_free, least_free, bound, put, given, without, size_in, size_at, total, AreUsed};
 
 use crate::held::{Held, size_of_named};
@@ -16,14 +16,11 @@ use std::alloc::{AllocError as NoMemory, Global};
 use std::collections::BTreeMap;
 use std::marker::Model;
 
-/// The most bytes that all objects hold; own.
-const LIMIT: u64 = 67108864;
-
 /// The names of one kind that are in use. Contracts see the list of them in rising order, each with what it stands for.
 /// The objects hold at most 67108864 bytes.
 #[derive(Drop)]
 pub struct Table<T: Held> {
-    entries: BTreeMap<u64, Named<T>>,
+    pub(crate) entries: BTreeMap<u64, Named<T>>,
     held: u64,
     /// So many names from 1 on are in use: where the search for free ones starts, so that a name is passed once.
     full: u32,
@@ -276,22 +273,6 @@ fn size_before<T: Held>(old: Option<Named<T>>) -> u64
 }
 
 impl Table<Store> {
-    /// Why a buffer's store can't become so many bytes (section 2.9). None where it can.
-    pub fn bytes_fault(&self, name: u64, count: u64) -> Option<GlError>
-        ensures { result ≡ bytes_fault self.now name count }
-    {
-        if self.is_object(name) {
-            let room = LIMIT - self.total() + self.size_at(name);
-            if count > room {
-                Some(GlError::OutOfMemory)
-            } else {
-                None
-            }
-        } else {
-            Some(GlError::InvalidOperation)
-        }
-    }
-
     /// Why so many bytes can't be written over a part of a buffer's store (section 2.9). None where they can.
     pub fn part_fault(&self, name: u64, offset: u64, count: u64) -> Option<GlError>
         ensures { result ≡ part_fault self.now name offset count }

@@ -4,8 +4,8 @@ ghost use Rattle.std.specs.Prelude.{IfOk};
 ghost use Rattle.gl_objects.specs.Event.{IsEvent};
 
 use gl_objects::{
-    Event, Kind, Names, Objects, Upload, UsedBuffers, UsedTextures, asking_law, legal_law,
-    names_law, part_law,
+    Event, EventReply, Kind, Names, Objects, Upload, UsedBuffers, UsedTextures, asking_law,
+    legal_law, names_law, part_law,
 };
 use gl_words::GlError;
 use std::alloc::{AllocError, Global};
@@ -90,24 +90,33 @@ fn event_of(rt: &impl Abort, alloc: Global, row: &Row) -> Result<Event, AllocErr
     }
 }
 
-/// Applies the events of a table in turn, and compares their replies.
+/// Compares a reply, and what objects have behind it, with a row.
+fn compare(rt: &impl Abort, objects: &Objects, reply: &EventReply, row: &Row) {
+    match *row {
+        Row::Gen(_, _, names) => assert_eq!(rt; reply.names.as_slice(), names),
+        Row::Many(_, _, count) => assert_eq!(rt; reply.names.as_slice().len(), count),
+        Row::Is(_, _, truth) => assert_eq!(rt; reply.truth, truth),
+        Row::Byte(name, at, byte) => assert_eq!(rt; objects.buffer_byte(name, at), byte),
+        _ => {}
+    }
+}
+
+/// Has objects apply the events of a table in turn, and others take them, and compares their replies.
 fn follow(
     rt: &impl Abort,
     alloc: Global,
     rows: &[(Row, Option<GlError>)],
 ) -> Result<(), AllocError> {
-    let mut objects = Objects::new(alloc);
+    let mut applying = Objects::new(alloc);
+    let mut taking = Objects::new(alloc);
     for (row, fault) in rows {
         let event = event_of(rt, alloc, row)?;
-        let reply = objects.apply(&event)?;
+        let reply = applying.apply(&event)?;
         assert_eq!(rt; reply.fault, *fault);
-        match *row {
-            Row::Gen(_, _, names) => assert_eq!(rt; reply.names.as_slice(), names),
-            Row::Many(_, _, count) => assert_eq!(rt; reply.names.as_slice().len(), count),
-            Row::Is(_, _, truth) => assert_eq!(rt; reply.truth, truth),
-            Row::Byte(name, at, byte) => assert_eq!(rt; objects.buffer_byte(name, at), byte),
-            _ => {}
-        }
+        compare(rt, &applying, &reply, row);
+        let reply = taking.take(event)?;
+        assert_eq!(rt; reply.fault, *fault);
+        compare(rt, &taking, &reply, row);
     }
     Ok(())
 }
