@@ -1,4 +1,5 @@
 pub mod Faults
+pub mod Pitches
 pub mod Stepping
 pub mod Deleting
 pub mod Agreeing

@@ -4,7 +4,7 @@ use Rattle.std.proofs.lemmas.Bool.{true≢false}
 use Rattle.std.proofs.lemmas.Option.{none-some}
 use Rattle.gl_words.specs.Call.{is_answering}
 use Rattle.gl_words.specs.declared.call.Call.{Call}
-use Rattle.gl_words.specs.declared.call.Call.TheVariants.{ActiveTexture, BindBuffer, BufferData, BufferSubData, ClientActiveTexture, ColorPointer, DeleteBuffers, DeleteTextures, DisableClientState, DrawArrays, DrawElements, EnableClientState, GetIntegerv, GetPointerv, IsEnabled, LoadMatrixx, MatrixMode, MultMatrixx, NormalPointer, PixelStorei, PopMatrix, PushMatrix, TexCoordPointer, VertexPointer}
+use Rattle.gl_words.specs.declared.call.Call.TheVariants.{ActiveTexture, BindBuffer, BufferData, BufferSubData, ClientActiveTexture, ColorPointer, DeleteBuffers, DeleteTextures, DisableClientState, DrawArrays, DrawElements, EnableClientState, GetIntegerv, GetPointerv, IsEnabled, LoadMatrixx, MatrixMode, MultMatrixx, NormalPointer, PixelStorei, PopMatrix, PushMatrix, TexCoordPointer, TexEnvxv, TexImage2D, TexSubImage2D, VertexPointer}
 use Rattle.gl_words.specs.declared.error.GlError.{GlError}
 use Rattle.gl_memory.specs.Segment.{Segment}
 use Rattle.gl_tracked.specs.declared.tracked.Tracked.{Tracked}
@@ -67,6 +67,9 @@ may_read (DrawArrays mode first count) = true
 may_read (DrawElements mode count kind indices) = true
 may_read (LoadMatrixx matrix) = true
 may_read (MultMatrixx matrix) = true
+may_read (TexEnvxv target pname params) = true
+may_read (TexImage2D target level internalformat width height border format kind pixels) = true
+may_read (TexSubImage2D target level xoffset yoffset width height format kind pixels) = true
 may_read _ = false
 
 set_by-others : (tracked : Tracked) (call : Call) (memory : List Segment) → may_set call ≡ false → set_by tracked call memory ≡ tracked
@@ -181,6 +184,9 @@ reads_by-none tracked (DrawArrays mode first count) memory fault h = absurd (cc)
 reads_by-none tracked (DrawElements mode count kind indices) memory fault h = absurd (cc)
 reads_by-none tracked (LoadMatrixx matrix) memory fault h = absurd (cc)
 reads_by-none tracked (MultMatrixx matrix) memory fault h = absurd (cc)
+reads_by-none tracked (TexEnvxv target pname params) memory fault h = absurd (cc)
+reads_by-none tracked (TexImage2D target level internalformat width height border format kind pixels) memory fault h = absurd (cc)
+reads_by-none tracked (TexSubImage2D target level xoffset yoffset width height format kind pixels) memory fault h = absurd (cc)
 reads_by-none tracked _ memory fault h = reads_by-nothing fault
 
 -- no other call reads memory

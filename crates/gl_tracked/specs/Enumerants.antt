@@ -1,5 +1,5 @@
--- The enumerants that calls on buffers, on state which isn't tracked, and draws accept: those of OpenGL ES 1.1.12. What calls set with them isn't told here.
-use Rattle.std.specs.Prelude.{ℕ, List, [], ◌∷◌}
+-- The enumerants that calls on buffers and textures, on state which isn't tracked, and draws accept: those of OpenGL ES 1.1.12. What calls set with them isn't told here.
+use Rattle.std.specs.Prelude.{ℕ, ◌==◌, ℤ, pos, if◌then◌else◌, List, [], ◌∷◌}
 
 -- the comparisons: NEVER, LESS, EQUAL, LEQUAL, GREATER, NOTEQUAL, GEQUAL and ALWAYS; sections 4.1.4 and 4.1.6
 abbrev pub comparisons : List ℕ
@@ -40,3 +40,35 @@ usages = 0x88E4 ∷ 0x88E8 ∷ []
 -- the types of indices: UNSIGNED_BYTE and UNSIGNED_SHORT; section 2.8
 abbrev pub index_types : List ℕ
 index_types = 0x1401 ∷ 0x1403 ∷ []
+
+-- the formats of textures: ALPHA, RGB, RGBA, LUMINANCE and LUMINANCE_ALPHA; section 3.7.1
+abbrev pub texture_formats : List ℕ
+texture_formats = 0x1906 ∷ 0x1907 ∷ 0x1908 ∷ 0x1909 ∷ 0x190A ∷ []
+
+-- the modes of texture environments: ADD, BLEND, REPLACE, MODULATE and DECAL; section 3.7.12
+abbrev pub environment_modes : List ℤ
+environment_modes = pos 0x0104 ∷ pos 0x0BE2 ∷ pos 0x1E01 ∷ pos 0x2100 ∷ pos 0x2101 ∷ []
+
+-- the parameters of textures: TEXTURE_MAG_FILTER, TEXTURE_MIN_FILTER, TEXTURE_WRAP_S and TEXTURE_WRAP_T; section 3.7.4
+abbrev pub texture_parameters : List ℕ
+texture_parameters = 0x2800 ∷ 0x2801 ∷ 0x2802 ∷ 0x2803 ∷ []
+
+-- the filters where texels are magnified: NEAREST and LINEAR; section 3.7.8
+abbrev pub magnifications : List ℤ
+magnifications = pos 0x2600 ∷ pos 0x2601 ∷ []
+
+-- the filters where they are minified: these, and the four of mipmaps; section 3.7.7
+abbrev pub minifications : List ℤ
+minifications = pos 0x2600 ∷ pos 0x2601 ∷ pos 0x2700 ∷ pos 0x2701 ∷ pos 0x2702 ∷ pos 0x2703 ∷ []
+
+-- how coordinates wrap: REPEAT and CLAMP_TO_EDGE; section 3.7.6
+abbrev pub wraps : List ℤ
+wraps = pos 0x2901 ∷ pos 0x812F ∷ []
+
+-- the values that a parameter of textures accepts, and none of another name; section 3.7.4
+unfoldable pub values_of_parameter : ℕ → List ℤ
+values_of_parameter pname =
+    if pname == 0x2800 then magnifications else (
+    if pname == 0x2801 then minifications else (
+    if pname == 0x2802 then wraps else (
+    if pname == 0x2803 then wraps else [])))

@@ -1,14 +1,15 @@
 -- Which error a call makes, as tracked state and the call show it; sections 2.5 and those of the calls.
-use Rattle.std.specs.Prelude.{ℕ, ◌==◌, nat_lt, ℤ, pos, int_le, int_lt, Bool, true, false, not, ◌&&◌, ◌||◌, bit_and, if◌then◌else◌, List, [], ◌∷◌, Option, Some, None, is_some}
+use Rattle.std.specs.Prelude.{ℕ, ◌==◌, nat_lt, ℤ, pos, int_le, int_lt, Bool, true, false, not, ◌&&◌, ◌||◌, bit_and, if◌then◌else◌, List, [], ◌∷◌, map, Option, Some, None, is_some}
 use Rattle.std.specs.List.{list_any}
 use Rattle.std.specs.Ordering.{int_eq}
 use Rattle.gl_words.specs.declared.call.Call.{Call}
-use Rattle.gl_words.specs.declared.call.Call.TheVariants.{ActiveTexture, AlphaFuncx, BindBuffer, BindTexture, BlendFunc, BufferData, BufferSubData, Clear, ClearColorx, ClearDepthx, ClientActiveTexture, Color4x, ColorMask, ColorPointer, CullFace, DeleteBuffers, DeleteTextures, DepthFunc, DepthMask, DepthRangex, Disable, DisableClientState, DrawArrays, DrawElements, Enable, EnableClientState, Finish, Flush, FrontFace, Frustumx, GenBuffers, GenTextures, GetError, GetFixedv, GetIntegerv, GetPointerv, IsBuffer, IsEnabled, IsTexture, LoadIdentity, LoadMatrixx, MatrixMode, MultMatrixx, MultiTexCoord4x, Normal3x, NormalPointer, Orthox, PixelStorei, PopMatrix, PushMatrix, ReadPixels, Rotatex, Scalex, Scissor, ShadeModel, TexCoordPointer, Translatex, VertexPointer, Viewport}
+use Rattle.gl_words.specs.declared.call.Call.TheVariants.{ActiveTexture, AlphaFuncx, BindBuffer, BindTexture, BlendFunc, BufferData, BufferSubData, Clear, ClearColorx, ClearDepthx, ClientActiveTexture, Color4x, ColorMask, ColorPointer, CullFace, DeleteBuffers, DeleteTextures, DepthFunc, DepthMask, DepthRangex, Disable, DisableClientState, DrawArrays, DrawElements, Enable, EnableClientState, Finish, Flush, FrontFace, Frustumx, GenBuffers, GenTextures, GetError, GetFixedv, GetIntegerv, GetPointerv, IsBuffer, IsEnabled, IsTexture, LoadIdentity, LoadMatrixx, MatrixMode, MultMatrixx, MultiTexCoord4x, Normal3x, NormalPointer, Orthox, PixelStorei, PopMatrix, PushMatrix, ReadPixels, Rotatex, Scalex, Scissor, ShadeModel, TexCoordPointer, TexEnvi, TexEnvxv, TexImage2D, TexParameteri, TexSubImage2D, Translatex, VertexPointer, Viewport}
 use Rattle.gl_words.specs.declared.error.GlError.{GlError}
 use Rattle.gl_words.specs.declared.error.GlError.TheVariants.{InvalidEnum, InvalidOperation, InvalidValue, OutOfMemory, StackOverflow, StackUnderflow}
 use Rattle.gl_tracked.specs.declared.tracked.Tracked.{Tracked}
-use Rattle.gl_tracked.specs.Enumerants.{buffer_targets, comparisons, dest_factors, faces, index_types, modes, shadings, source_factors, usages, windings}
+use Rattle.gl_tracked.specs.Enumerants.{buffer_targets, comparisons, dest_factors, environment_modes, faces, index_types, modes, shadings, source_factors, texture_formats, texture_parameters, usages, values_of_parameter, windings}
 use Rattle.gl_tracked.specs.Gets.{integer_asked, pointer_asked, other_integers, fixed_names}
+use Rattle.gl_tracked.specs.Images.{image_sides}
 use Rattle.gl_tracked.specs.Stack.{is_matrix_mode, current_depth, current_most}
 use Rattle.gl_tracked.specs.Tracked.{alignments, alignment_names, array_sizes, arrays, capabilities, colour_types, units, vertex_types}
 
@@ -101,7 +102,61 @@ part_fault tracked target offset size =
     (is_bound tracked target, InvalidOperation) ∷
     (is_buffer_size size, InvalidValue) ∷ [])
 
--- the first error test of a call that fails, or none; sections 2.6.1, 2.7, 2.8, 2.9, 2.10.1, 2.10.2, 2.12.1, 2.12.7, 3.5.1, 3.6.1, 3.7.11, 4.1.2, 4.1.4, 4.1.6, 4.1.7, 4.2.3, 4.3.1 and 6.1, and chapters 2 to 4 for capabilities
+-- a signed number is one of the formats of textures; section 3.7.1
+unfoldable pub is_internal_format : ℤ → Bool
+is_internal_format format = size_is_among (map pos texture_formats) format
+
+-- a side that an image may have, in texels: a power of two up to 256; section 3.7.1, the greatest own
+unfoldable pub is_image_side : ℤ → Bool
+is_image_side side = size_is_among image_sides side
+
+-- sides of a rectangle of texels that can be replaced: 0 to 256; section 3.7.2, the most own
+unfoldable pub is_part_size : ℤ → ℤ → Bool
+is_part_size width height = is_extent width height && (int_le width (pos 256) && int_le height (pos 256))
+
+-- the first error of TexEnvi: its target TEXTURE_ENV, its name TEXTURE_ENV_MODE, and the mode; section 3.7.12
+unfoldable pub mode_fault : ℕ → ℕ → ℤ → Option GlError
+mode_fault target pname param =
+    first_failed ((target == 0x2300, InvalidEnum) ∷ (pname == 0x2200, InvalidEnum) ∷ (size_is_among environment_modes param, InvalidEnum) ∷ [])
+
+-- the first error of TexEnvxv: its target TEXTURE_ENV, and its name TEXTURE_ENV_COLOR; section 3.7.12
+unfoldable pub colour_fault : ℕ → ℕ → Option GlError
+colour_fault target pname = first_failed ((target == 0x2300, InvalidEnum) ∷ (pname == 0x2201, InvalidEnum) ∷ [])
+
+-- the first error of TexImage2D: its target TEXTURE_2D, its format and its type UNSIGNED_BYTE; a level or a border other than 0, an internal format that is none and a side that no image has; and an internal format other than the format; section 3.7.1
+unfoldable pub image_fault : ℕ → ℤ → ℤ → ℤ → ℤ → ℤ → ℕ → ℕ → Option GlError
+image_fault target level internalformat width height border format kind =
+    first_failed (
+    (target == 0x0DE1, InvalidEnum) ∷
+    (is_among texture_formats format, InvalidEnum) ∷
+    (kind == 0x1401, InvalidEnum) ∷
+    (int_eq level (pos 0), InvalidValue) ∷
+    (is_internal_format internalformat, InvalidValue) ∷
+    (is_image_side width, InvalidValue) ∷
+    (is_image_side height, InvalidValue) ∷
+    (int_eq border (pos 0), InvalidValue) ∷
+    (int_eq internalformat (pos format), InvalidOperation) ∷ [])
+
+-- the first error of TexParameteri: its target TEXTURE_2D, its name, and a value that the name doesn't accept; section 3.7.4
+unfoldable pub parameter_fault : ℕ → ℕ → ℤ → Option GlError
+parameter_fault target pname param =
+    first_failed (
+    (target == 0x0DE1, InvalidEnum) ∷
+    (is_among texture_parameters pname, InvalidEnum) ∷
+    (size_is_among (values_of_parameter pname) param, InvalidEnum) ∷ [])
+
+-- the first error of TexSubImage2D: its target TEXTURE_2D, its format and its type UNSIGNED_BYTE; a level other than 0, an offset below zero and sides that can't be replaced; section 3.7.2
+unfoldable pub subimage_fault : ℕ → ℤ → ℤ → ℤ → ℤ → ℤ → ℕ → ℕ → Option GlError
+subimage_fault target level xoffset yoffset width height format kind =
+    first_failed (
+    (target == 0x0DE1, InvalidEnum) ∷
+    (is_among texture_formats format, InvalidEnum) ∷
+    (kind == 0x1401, InvalidEnum) ∷
+    (int_eq level (pos 0), InvalidValue) ∷
+    (is_extent xoffset yoffset, InvalidValue) ∷
+    (is_part_size width height, InvalidValue) ∷ [])
+
+-- the first error test of a call that fails, or none; sections 2.6.1, 2.7, 2.8, 2.9, 2.10.1, 2.10.2, 2.12.1, 2.12.7, 3.5.1, 3.6.1, 3.7.1, 3.7.2, 3.7.4, 3.7.11, 3.7.12, 4.1.2, 4.1.4, 4.1.6, 4.1.7, 4.2.3, 4.3.1 and 6.1, and chapters 2 to 4 for capabilities
 unfoldable pub fault_of : Tracked → Call → Option GlError
 fault_of tracked (ActiveTexture texture) = if is_among units texture then None else Some InvalidEnum
 fault_of tracked (AlphaFuncx func reference) = if is_among comparisons func then None else Some InvalidEnum
@@ -161,6 +216,11 @@ fault_of tracked (Scalex x y z) = None
 fault_of tracked (Scissor x y width height) = if is_extent width height then None else Some InvalidValue
 fault_of tracked (ShadeModel mode) = if is_among shadings mode then None else Some InvalidEnum
 fault_of tracked (TexCoordPointer size kind stride pointer) = pointer_fault (size_is_among array_sizes size) (is_among vertex_types kind) stride
+fault_of tracked (TexEnvi target pname param) = mode_fault target pname param
+fault_of tracked (TexEnvxv target pname params) = colour_fault target pname
+fault_of tracked (TexImage2D target level internalformat width height border format kind pixels) = image_fault target level internalformat width height border format kind
+fault_of tracked (TexParameteri target pname param) = parameter_fault target pname param
+fault_of tracked (TexSubImage2D target level xoffset yoffset width height format kind pixels) = subimage_fault target level xoffset yoffset width height format kind
 fault_of tracked (Translatex x y z) = None
 fault_of tracked (VertexPointer size kind stride pointer) = pointer_fault (size_is_among array_sizes size) (is_among vertex_types kind) stride
 fault_of tracked (Viewport x y width height) = if is_extent width height then None else Some InvalidValue
@@ -170,3 +230,12 @@ abbrev pub has_sides : Call → Bool
 has_sides (Frustumx left right bottom top near far) = true
 has_sides (Orthox left right bottom top near far) = true
 has_sides _ = false
+
+-- a call sets the environment, the image or a parameter of textures; own
+abbrev pub is_of_textures : Call → Bool
+is_of_textures (TexEnvi target pname param) = true
+is_of_textures (TexEnvxv target pname params) = true
+is_of_textures (TexImage2D target level internalformat width height border format kind pixels) = true
+is_of_textures (TexParameteri target pname param) = true
+is_of_textures (TexSubImage2D target level xoffset yoffset width height format kind pixels) = true
+is_of_textures _ = false

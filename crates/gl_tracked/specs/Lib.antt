@@ -3,10 +3,11 @@ pub mod Stack
 pub mod Arrays
 pub mod Enumerants
 pub mod Gets
+pub mod Count
+pub mod Images
 pub mod Fault
 pub mod Reads
 pub mod Element
-pub mod Count
 pub mod Indices
 pub mod Names
 pub mod Ranges

@@ -1,4 +1,4 @@
--- What calls read of client memory: draws element by element, and matrices, names and bytes of buffers; sections 2.8, 2.9 and 2.10.2. Nothing is cut and nothing is joined here.
+-- What calls read of client memory: draws element by element, and matrices, names, bytes of buffers, images and colours; sections 2.8, 2.9, 2.10.2, 3.7.1, 3.7.2 and 3.7.12. Nothing is cut and nothing is joined here.
 use Rattle.std.specs.Prelude.{ℕ, ◌*◌, ◌==◌, nat_le, nat_lt, ℤ, pos, Bool, not, ◌&&◌, if◌then◌else◌, List, [], ◌∷◌, ◌++◌, map}
 use Rattle.std.specs.List.{filter, flat_map, list_any, range_with_len}
 use Rattle.gl_memory.specs.Segment.{Segment}
@@ -7,6 +7,7 @@ use Rattle.gl_tracked.specs.declared.tracked.ArrayState.{ArrayState}
 use Rattle.gl_tracked.specs.declared.tracked.Tracked.{Tracked}
 use Rattle.gl_tracked.specs.Count.{count_drawn, count_of}
 use Rattle.gl_tracked.specs.Element.{arrays_in_order, element_at}
+use Rattle.gl_tracked.specs.Images.{image_length, side_of, texel_size}
 use Rattle.gl_tracked.specs.Indices.{index_bytes, indices_at}
 
 -- whether draws read an array from client memory: it is enabled, and in no buffer; sections 2.8 and 2.9
@@ -68,3 +69,16 @@ ranges_of_data place size = if place == 0 then [] else range_of_bytes place size
 -- where so many names lie, of four bytes each, from a place on; section 2.9
 unfoldable pub range_of_names : ℕ → ℤ → Piece
 range_of_names place count = record { start = place; len = 4 * count_of count }
+
+-- where the bytes of an image lie, by its format and its sides, from a place on: its rows at UNPACK_ALIGNMENT, the last one without padding; sections 3.6.1, 3.6.2, 3.7.1 and 3.7.2
+unfoldable pub range_of_image : Tracked → ℕ → ℤ → ℤ → ℕ → Piece
+range_of_image tracked format width height place =
+    record { start = place; len = image_length (count_of tracked.unpack_alignment) (texel_size format) (side_of width) (side_of height) }
+
+-- what TexImage2D reads: an image from a place on, and nothing from 0, which stands for zeros; section 3.7.1
+unfoldable pub ranges_of_image : Tracked → ℕ → ℤ → ℤ → ℕ → List Piece
+ranges_of_image tracked format width height place = if place == 0 then [] else range_of_image tracked format width height place ∷ []
+
+-- what TexEnvxv reads at a pointer: 4 numbers of four bytes; section 3.7.12
+unfoldable pub range_of_colour : ℕ → Piece
+range_of_colour pointer = record { start = pointer; len = 16 }

@@ -1,7 +1,7 @@
 -- What a call does to tracked state, what it reads of memory, and which number of tracked state it asks for.
 use Rattle.std.specs.Prelude.{ℕ, ◌+◌, ◌-◌, ◌==◌, ℤ, Bool, true, false, if◌then◌else◌, List, [], ◌∷◌, Option, Some, None}
 use Rattle.gl_words.specs.declared.call.Call.{Call}
-use Rattle.gl_words.specs.declared.call.Call.TheVariants.{ActiveTexture, BindBuffer, BufferData, BufferSubData, ClientActiveTexture, ColorPointer, DeleteBuffers, DeleteTextures, DisableClientState, DrawArrays, DrawElements, EnableClientState, GetIntegerv, GetPointerv, IsEnabled, LoadMatrixx, MatrixMode, MultMatrixx, NormalPointer, PixelStorei, PopMatrix, PushMatrix, TexCoordPointer, VertexPointer}
+use Rattle.gl_words.specs.declared.call.Call.TheVariants.{ActiveTexture, BindBuffer, BufferData, BufferSubData, ClientActiveTexture, ColorPointer, DeleteBuffers, DeleteTextures, DisableClientState, DrawArrays, DrawElements, EnableClientState, GetIntegerv, GetPointerv, IsEnabled, LoadMatrixx, MatrixMode, MultMatrixx, NormalPointer, PixelStorei, PopMatrix, PushMatrix, TexCoordPointer, TexEnvxv, TexImage2D, TexSubImage2D, VertexPointer}
 use Rattle.gl_words.specs.declared.error.GlError.{GlError}
 use Rattle.gl_memory.specs.Segment.{Segment}
 use Rattle.gl_memory.specs.declared.piece.Piece.{Piece}
@@ -11,7 +11,7 @@ use Rattle.gl_tracked.specs.Arrays.{with_enabled, with_pointer}
 use Rattle.gl_tracked.specs.Gets.{integer_asked, pointer_asked, enabled_asked}
 use Rattle.gl_tracked.specs.Count.{count_of}
 use Rattle.gl_tracked.specs.Names.{names_at, without_buffers}
-use Rattle.gl_tracked.specs.Ranges.{elements_read_all, range_of_bytes, range_of_matrix, range_of_names, ranges_of_data, ranges_of_draw, ranges_of_elements}
+use Rattle.gl_tracked.specs.Ranges.{elements_read_all, range_of_bytes, range_of_colour, range_of_image, range_of_matrix, range_of_names, ranges_of_data, ranges_of_draw, ranges_of_elements, ranges_of_image}
 use Rattle.gl_tracked.specs.Reads.{Reads, Everything, Ranges}
 use Rattle.gl_tracked.specs.Stack.{current_depth, with_depth}
 
@@ -52,7 +52,7 @@ unless_fault (Some error) before after = before
 unfoldable pub tracked_after : Tracked → Call → List Segment → Tracked
 tracked_after tracked call memory = unless_fault (fault_of tracked call) tracked (set_by tracked call memory)
 
--- the ranges of a memory that a call without an error reads, where it doesn't read all: those of bytes and names, of draws and of matrices; sections 2.8, 2.9, 2.10.2 and 3.7.11
+-- the ranges of a memory that a call without an error reads, where it doesn't read all: those of bytes and names, of draws and of matrices, of images and of colours; sections 2.8, 2.9, 2.10.2, 3.7.1, 3.7.2, 3.7.11 and 3.7.12
 unfoldable pub ranges_of : Tracked → Call → List Segment → List Piece
 ranges_of tracked (BufferData target size source usage) memory = ranges_of_data source size
 ranges_of tracked (BufferSubData target offset size source) memory = range_of_bytes source size ∷ []
@@ -62,6 +62,9 @@ ranges_of tracked (DrawArrays mode first count) memory = ranges_of_draw tracked 
 ranges_of tracked (DrawElements mode count kind indices) memory = ranges_of_elements tracked count kind indices memory
 ranges_of tracked (LoadMatrixx matrix) memory = range_of_matrix matrix ∷ []
 ranges_of tracked (MultMatrixx matrix) memory = range_of_matrix matrix ∷ []
+ranges_of tracked (TexEnvxv target pname params) memory = range_of_colour params ∷ []
+ranges_of tracked (TexImage2D target level internalformat width height border format kind pixels) memory = ranges_of_image tracked format width height pixels
+ranges_of tracked (TexSubImage2D target level xoffset yoffset width height format kind pixels) memory = range_of_image tracked format width height pixels ∷ []
 ranges_of tracked _ memory = []
 
 -- whether a call without an error may read any place of memory: only DrawElements, by tracked state; section 2.9
@@ -80,7 +83,7 @@ reads_by (Some error) all ranges = Ranges []
 reads_by None true ranges = Everything
 reads_by None false ranges = Ranges ranges
 
--- what a call reads of a memory: a call with an error reads nothing; sections 2.5, 2.8, 2.9 and 2.10.2
+-- what a call reads of a memory: a call with an error reads nothing; section 2.5 and those of the calls
 unfoldable pub reads_of : Tracked → Call → List Segment → Reads
 reads_of tracked call memory = reads_by (fault_of tracked call) (reads_all tracked call) (ranges_of tracked call memory)
 

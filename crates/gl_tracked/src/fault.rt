@@ -1,4 +1,4 @@
-//! The first error of a call. A test of its arguments is a function, named as the definition.
+//! The first error of a call. A test of its arguments is a function, named as the definition; those of textures stand in `textures.rt`.
 
 ghost use Rattle.std.specs.Prelude.{◌≡◌, ◌==◌, ◌||◌, pos, true, if◌then◌else◌, ◌∷◌, [], Some, None, is_some};
 ghost use Rattle.gl_tracked.specs.declared.tracked.Tracked.{Tracked};
@@ -16,6 +16,7 @@ use crate::enumerants::{
     is_usage, is_winding,
 };
 use crate::finding::Finding;
+use crate::textures::texture_fault;
 use crate::tracked::Tracked;
 use gl_words::{Call, GlError};
 
@@ -113,6 +114,11 @@ impl Tracked {
                 *width, *height,
             ))),
             Call::ShadeModel { mode } => Finding::Fault(enum_unless(is_shading(*mode))),
+            Call::TexEnvi { .. }
+            | Call::TexEnvxv { .. }
+            | Call::TexImage2D { .. }
+            | Call::TexParameteri { .. }
+            | Call::TexSubImage2D { .. } => Finding::Fault(texture_fault(call)),
             Call::Viewport { width, height, .. } => Finding::Fault(value_unless(is_extent(
                 *width, *height,
             ))),
@@ -229,21 +235,21 @@ impl Tracked {
 }
 
 /// An error, where a test isn't passed.
-fn error_unless(passes: bool, error: GlError) -> Option<GlError>
+pub(crate) fn error_unless(passes: bool, error: GlError) -> Option<GlError>
     ensures { result ≡ (if passes then None else Some error) }
 {
     if passes { None } else { Some(error) }
 }
 
 /// INVALID_ENUM, where a test isn't passed.
-fn enum_unless(passes: bool) -> Option<GlError>
+pub(crate) fn enum_unless(passes: bool) -> Option<GlError>
     ensures { result ≡ (if passes then None else Some GlError.InvalidEnum) }
 {
     error_unless(passes, GlError::InvalidEnum)
 }
 
 /// INVALID_VALUE, where a test isn't passed.
-fn value_unless(passes: bool) -> Option<GlError>
+pub(crate) fn value_unless(passes: bool) -> Option<GlError>
     ensures { result ≡ (if passes then None else Some GlError.InvalidValue) }
 {
     error_unless(passes, GlError::InvalidValue)
@@ -537,7 +543,7 @@ fn is_frustum(left: i32, right: i32, bottom: i32, top: i32, near: i32, far: i32)
 
 /// Whether neither of two numbers is below zero, as the sides of a viewport or a scissor (sections 2.9, 2.10.1 and 4.1.2).
 #[tactic(auto, unfolding(crate::specs::Fault::is_extent))]
-fn is_extent(width: i32, height: i32) -> bool
+pub(crate) fn is_extent(width: i32, height: i32) -> bool
     ensures { result ≡ is_extent width height }
 {
     0 <= width && 0 <= height
