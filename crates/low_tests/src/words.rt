@@ -8,7 +8,7 @@ use std::process::Abort;
 use std::test::Fail;
 
 /// Each name with its number, arguments that such a call may have, and whether it is answered.
-static CALLS: [(&str, u16, &[i64], bool); 59] = [
+static CALLS: [(&str, u16, &[i64], bool); 64] = [
     ("ActiveTexture", 1, &[0x84C1], false),
     ("AlphaFuncx", 2, &[0x0204, -65536], false),
     ("BindBuffer", 3, &[0x8892, 4294967295], false),
@@ -80,6 +80,21 @@ static CALLS: [(&str, u16, &[i64], bool); 59] = [
     ("Scissor", 54, &[-1, -2, 3, 4], false),
     ("ShadeModel", 55, &[0x1D00], false),
     ("TexCoordPointer", 56, &[2, 0x140C, 8, 3], false),
+    ("TexEnvi", 57, &[0x2300, 0x2200, -2147483648], false),
+    ("TexEnvxv", 58, &[0x2300, 0x2201, 4294967295], false),
+    (
+        "TexImage2D",
+        59,
+        &[0x0DE1, -1, 0x1907, -2, 4, -5, 0x1907, 0x1401, 4294967295],
+        false,
+    ),
+    ("TexParameteri", 60, &[0x0DE1, 0x2802, -1], false),
+    (
+        "TexSubImage2D",
+        61,
+        &[0x0DE1, -1, -2, 3, -4, 5, 0x1908, 0x1401, 8],
+        false,
+    ),
     ("Translatex", 62, &[1, 2, 3], false),
     ("VertexPointer", 63, &[3, 0x1402, 0, 4294967294], false),
     ("Viewport", 64, &[-1, -2, 3, 4], false),
