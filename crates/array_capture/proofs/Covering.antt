@@ -11,10 +11,10 @@ use Rattle.gl_tracked.specs.declared.tracked.ArrayState.{ArrayState}
 use Rattle.gl_tracked.specs.declared.tracked.Tracked.{Tracked}
 use Rattle.gl_tracked.specs.Element.{element_at, element_bytes, step_over}
 use Rattle.array_capture.specs.Law.{Cover, LiesInOne, Serve}
-use Rattle.array_capture.specs.Pieces.{greatest_of, least_of, memory_end, part_before, parts_in, pieces_at, pieces_between, pieces_of_bytes, pieces_of_data, pieces_of_draw, pieces_of_elements, pieces_of_matrix, pieces_of_names, span_of}
+use Rattle.array_capture.specs.Pieces.{greatest_of, least_of, memory_end, part_before, parts_in, pieces_at, pieces_between, pieces_of_bytes, pieces_of_colour, pieces_of_data, pieces_of_draw, pieces_of_elements, pieces_of_image, pieces_of_matrix, pieces_of_names, pieces_of_subimage, span_of}
 use Rattle.gl_tracked.specs.Count.{count_drawn}
 use Rattle.gl_tracked.specs.Indices.{indices_at}
-use Rattle.gl_tracked.specs.Ranges.{arrays_read, places_drawn, range_of_bytes, range_of_indices, range_of_matrix, range_of_names, ranges_at, ranges_of_data, ranges_of_draw, ranges_of_elements, takes_indices}
+use Rattle.gl_tracked.specs.Ranges.{arrays_read, places_drawn, range_of_bytes, range_of_colour, range_of_image, range_of_indices, range_of_matrix, range_of_names, ranges_at, ranges_of_data, ranges_of_draw, ranges_of_elements, ranges_of_image, takes_indices}
 use Rattle.array_capture.proofs.Parts.{cover-serve, lies_in_part, lies_left, lies_right}
 
 -- a place of an array is one from the least to the greatest
@@ -111,7 +111,7 @@ range-cover range memory =
     let part = part_before end range in
     All-cons (IsHeld end (part ++ [])) range [] (λ place lies within. lies_left place part [] (lies_in_part end place range lies within)) (All-nil (IsHeld end (part ++ [])))
 
--- the pieces for a matrix, for bytes and for names serve for them
+-- the pieces for a matrix, for bytes, for names, for images and for colours serve for them
 pub pieces_of_matrix-serve : (pointer : ℕ) (memory : List Segment) → Serve (pieces_of_matrix pointer memory) memory (range_of_matrix pointer ∷ [])
 unfolding pieces_of_matrix
 pieces_of_matrix-serve pointer memory = cover-serve _ memory _ (range-cover (range_of_matrix pointer) memory)
@@ -124,6 +124,15 @@ pub pieces_of_names-serve : (place : ℕ) (count : ℤ) (memory : List Segment) 
 unfolding pieces_of_names
 pieces_of_names-serve place count memory = cover-serve _ memory _ (range-cover (range_of_names place count) memory)
 
+pub pieces_of_subimage-serve : (tracked : Tracked) (format : ℕ) (width height : ℤ) (place : ℕ) (memory : List Segment)
+    → Serve (pieces_of_subimage tracked format width height place memory) memory (range_of_image tracked format width height place ∷ [])
+unfolding pieces_of_subimage
+pieces_of_subimage-serve tracked format width height place memory = cover-serve _ memory _ (range-cover (range_of_image tracked format width height place) memory)
+
+pub pieces_of_colour-serve : (pointer : ℕ) (memory : List Segment) → Serve (pieces_of_colour pointer memory) memory (range_of_colour pointer ∷ [])
+unfolding pieces_of_colour
+pieces_of_colour-serve pointer memory = cover-serve _ memory _ (range-cover (range_of_colour pointer) memory)
+
 -- what is left of a range, or of none, covers it
 range_unless-cover : (none : Bool) (range : Piece) (memory : List Segment) → Cover (parts_in memory (cond none [] (range ∷ []))) memory (cond none [] (range ∷ []))
 range_unless-cover true range memory = All-nil (IsHeld (memory_end memory) (parts_in memory []))
@@ -132,6 +141,12 @@ range_unless-cover false range memory = range-cover range memory
 pub pieces_of_data-serve : (place : ℕ) (size : ℤ) (memory : List Segment) → Serve (pieces_of_data place size memory) memory (ranges_of_data place size)
 unfolding pieces_of_data ranges_of_data
 pieces_of_data-serve place size memory = cover-serve _ memory _ (range_unless-cover (eqb place 0) (range_of_bytes place size) memory)
+
+pub pieces_of_image-serve : (tracked : Tracked) (format : ℕ) (width height : ℤ) (place : ℕ) (memory : List Segment)
+    → Serve (pieces_of_image tracked format width height place memory) memory (ranges_of_image tracked format width height place)
+unfolding pieces_of_image ranges_of_image
+pieces_of_image-serve tracked format width height place memory =
+    cover-serve _ memory _ (range_unless-cover (eqb place 0) (range_of_image tracked format width height place) memory)
 
 -- pieces and more pieces cover what each of them covers
 append-cover : (pieces more ranges others : List Piece) (memory : List Segment) → Cover pieces memory ranges → Cover more memory others → Cover (pieces ++ more) memory (ranges ++ others)

@@ -1,4 +1,4 @@
--- The pieces of client memory that are captured for draws, matrices, names and bytes of buffers, in their order; own. What is read stands in Ranges.antt.
+-- The pieces of client memory that are captured for draws, matrices, names, bytes of buffers, images and colours, in their order; own. What is read stands in Ranges.antt.
 use Rattle.std.specs.Prelude.{ℕ, ◌+◌, ◌-◌, min, max, nat_lt, ℤ, ◌&&◌, if◌then◌else◌, List, [], ◌∷◌, ◌++◌, length, map, Option, Some, None}
 use Rattle.std.specs.List.{flat_map}
 use Rattle.gl_memory.specs.declared.piece.Piece.{Piece}
@@ -9,7 +9,7 @@ use Rattle.array_capture.specs.declared.elements.Ends.{Ends}
 use Rattle.gl_tracked.specs.Count.{count_drawn}
 use Rattle.gl_tracked.specs.Element.{element_at}
 use Rattle.gl_tracked.specs.Indices.{indices_at}
-use Rattle.gl_tracked.specs.Ranges.{arrays_read, places_drawn, range_of_bytes, range_of_indices, range_of_matrix, range_of_names, ranges_of_data, takes_indices}
+use Rattle.gl_tracked.specs.Ranges.{arrays_read, places_drawn, range_of_bytes, range_of_colour, range_of_image, range_of_indices, range_of_matrix, range_of_names, ranges_of_data, ranges_of_image, takes_indices}
 
 -- the least of a place and others; own
 unfoldable pub least_of : ℕ → List ℕ → ℕ
@@ -81,3 +81,15 @@ pieces_of_bytes place size memory = parts_in memory (range_of_bytes place size �
 -- the pieces for DeleteBuffers and DeleteTextures: that for so many names from a place on; own
 unfoldable pub pieces_of_names : ℕ → ℤ → List Segment → List Piece
 pieces_of_names place count memory = parts_in memory (range_of_names place count ∷ [])
+
+-- the pieces for TexImage2D, by its format and its sides: that for an image from a place on, and none from 0; own
+unfoldable pub pieces_of_image : Tracked → ℕ → ℤ → ℤ → ℕ → List Segment → List Piece
+pieces_of_image tracked format width height place memory = parts_in memory (ranges_of_image tracked format width height place)
+
+-- the pieces for TexSubImage2D, by its format and its sides: that for texels from a place on; own
+unfoldable pub pieces_of_subimage : Tracked → ℕ → ℤ → ℤ → ℕ → List Segment → List Piece
+pieces_of_subimage tracked format width height place memory = parts_in memory (range_of_image tracked format width height place ∷ [])
+
+-- the pieces for TexEnvxv at a pointer; own
+unfoldable pub pieces_of_colour : ℕ → List Segment → List Piece
+pieces_of_colour pointer memory = parts_in memory (range_of_colour pointer ∷ [])

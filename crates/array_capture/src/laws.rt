@@ -2,8 +2,8 @@
 
 ghost use Rattle.std.specs.Prelude.{ℕ, ℤ, [], ◌∷◌};
 ghost use Rattle.array_capture.specs.Law.{Serve};
-ghost use Rattle.array_capture.specs.Pieces.{pieces_of_bytes, pieces_of_data, pieces_of_draw, pieces_of_elements, pieces_of_matrix, pieces_of_names};
-ghost use Rattle.gl_tracked.specs.Ranges.{range_of_bytes, range_of_matrix, range_of_names, ranges_of_data, ranges_of_draw, ranges_of_elements};
+ghost use Rattle.array_capture.specs.Pieces.{pieces_of_bytes, pieces_of_colour, pieces_of_data, pieces_of_draw, pieces_of_elements, pieces_of_image, pieces_of_matrix, pieces_of_names, pieces_of_subimage};
+ghost use Rattle.gl_tracked.specs.Ranges.{range_of_bytes, range_of_colour, range_of_image, range_of_matrix, range_of_names, ranges_of_data, ranges_of_draw, ranges_of_elements, ranges_of_image};
 
 use gl_memory::Memory;
 use gl_tracked::Tracked;
@@ -45,4 +45,22 @@ pub fn names_law<M: Memory>(memory: &M)
     ensures { (place : ℕ) (count : ℤ)
         → Serve (pieces_of_names place count (M.segments memory.now)) (M.segments memory.now)
         (range_of_names place count ∷ []) }
+{}
+
+/// The pieces for an image serve for all of it, whatever its format, its sides and the alignment of its rows are (sections 3.6.2,
+/// 3.7.1 and 3.7.2).
+pub fn images_law<M: Memory>(tracked: &Tracked, memory: &M)
+    ensures image { (format : ℕ) (width height : ℤ) (place : ℕ)
+        → Serve (pieces_of_image tracked.now format width height place (M.segments memory.now))
+        (M.segments memory.now) (ranges_of_image tracked.now format width height place) }
+    ensures part { (format : ℕ) (width height : ℤ) (place : ℕ)
+        → Serve (pieces_of_subimage tracked.now format width height place (M.segments memory.now))
+        (M.segments memory.now) (range_of_image tracked.now format width height place ∷ []) }
+{}
+
+/// The pieces for a colour serve for all of it (section 3.7.12).
+pub fn colour_law<M: Memory>(memory: &M)
+    ensures { (pointer : ℕ)
+        → Serve (pieces_of_colour pointer (M.segments memory.now)) (M.segments memory.now)
+        (range_of_colour pointer ∷ []) }
 {}

@@ -1,8 +1,10 @@
-//! Pieces for draws, matrices, uploads and deletions, at values of another program, and each law once.
+//! Pieces for draws, matrices, uploads, images, colours and deletions, at values of another program, and each law once.
 
 ghost use Rattle.gl_tracked.specs.Tracked.{IsSound};
 
-use array_capture::laws::{bytes_law, draw_law, elements_law, matrix_law, names_law};
+use array_capture::laws::{
+    bytes_law, colour_law, draw_law, elements_law, images_law, matrix_law, names_law,
+};
 use array_capture::*;
 use gl_memory::{ClientMemory, Pieces};
 use gl_tracked::Tracked;
@@ -357,6 +359,75 @@ fn names_have_a_piece_of_four_bytes_each(rt: HostRuntime) -> Result<(), Fail> {
     ];
     for (names, count, expected) in rows {
         same(&rt, &pieces_of_names(names, count, &memory), expected);
+    }
+    Ok(())
+}
+
+/// Images of a format at a place, with sides and an alignment of rows, have the pieces of these starts and lengths.
+fn images_have(
+    rt: &impl Abort,
+    memory: &ClientMemory,
+    rows: &[(i32, u32, i32, i32, u32, &[(u64, u64)])],
+) {
+    for (alignment, format, width, height, pixels, expected) in rows {
+        let mut tracked = Tracked::first();
+        let aligned = [Call::PixelStorei {
+            pname: 0x0CF5,
+            param: *alignment,
+        }];
+        take(&mut tracked, aligned.as_slice(), memory);
+        images_law(&tracked, memory);
+        same(
+            rt,
+            &pieces_of_subimage(&tracked, *format, *width, *height, *pixels, memory),
+            expected,
+        );
+        if *pixels != 0 {
+            same(
+                rt,
+                &pieces_of_image(&tracked, *format, *width, *height, *pixels, memory),
+                expected,
+            );
+        }
+    }
+}
+
+// By another program, for sides that TexSubImage2D takes. The last row isn't padded; memory ends at 200.
+#[test]
+fn an_image_has_a_piece_without_the_padding_of_its_last_row(rt: HostRuntime) -> Result<(), Fail> {
+    let memory = ClientMemory::new(rt.alloc(), 200)?;
+    let rows: [(i32, u32, i32, i32, u32, &[(u64, u64)]); 15] = [
+        (4, 0x1907, 2, 2, 32, &[(32, 14)]),
+        (1, 0x1907, 2, 2, 32, &[(32, 12)]),
+        (8, 0x1907, 2, 2, 32, &[(32, 14)]),
+        (4, 0x1907, 3, 3, 0, &[(0, 33)]),
+        (1, 0x1907, 3, 3, 0, &[(0, 27)]),
+        (8, 0x1906, 1, 5, 10, &[(10, 33)]),
+        (8, 0x190A, 3, 2, 190, &[(190, 10)]),
+        (8, 0x1908, 5, 1, 10, &[(10, 20)]),
+        (8, 0x1908, 256, 256, 10, &[(10, 190)]),
+        (2, 0x1907, 1, 4, 100, &[(100, 15)]),
+        (8, 0x1908, 0, 9, 10, &[]),
+        (8, 0x1908, 9, 0, 10, &[]),
+        (8, 0x1909, 4, 4, 200, &[]),
+        (4, 0x1907, -1, 4, 100, &[]),
+        (4, 0x1907, 4, 257, 100, &[]),
+    ];
+    images_have(&rt, &memory, rows.as_slice());
+    let tracked = Tracked::first();
+    let zeros = pieces_of_image(&tracked, 0x1907, 2, 2, 0, &memory);
+    same(&rt, &zeros, &[]);
+    Ok(())
+}
+
+// By another program.
+#[test]
+fn a_colour_has_a_piece_of_sixteen_bytes(rt: HostRuntime) -> Result<(), Fail> {
+    let memory = ClientMemory::new(rt.alloc(), 200)?;
+    colour_law(&memory);
+    let rows: [(u32, &[(u64, u64)]); 3] = [(100, &[(100, 16)]), (190, &[(190, 10)]), (200, &[])];
+    for (pointer, expected) in rows {
+        same(&rt, &pieces_of_colour(pointer, &memory), expected);
     }
     Ok(())
 }

@@ -1,4 +1,4 @@
-//! Tests of the pieces for draws and matrices.
+//! Tests of the pieces for draws, matrices, uploads, images, colours and deletions.
 #![tactic(auto)]
 
 #[cfg(test)]
