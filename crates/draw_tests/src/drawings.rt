@@ -11,7 +11,9 @@ use crate::cases::Case;
 use fixed_transform::Matrix;
 use fragment_ops::{FragmentState, Frame};
 use gl_tracked::ArrayState;
-use triangle_draw::{Drawing, Elements};
+use std::process::Abort;
+use std::test::Fail;
+use triangle_draw::{Drawing, Elements, Unit};
 use triangle_raster::View;
 use vertex_stage::{Stage, Texturing};
 
@@ -98,8 +100,13 @@ fn fragments_of(case: Case) -> FragmentState
     }
 }
 
-/// What a case draws by, with these vertices.
-pub(crate) fn drawing_of(stage: Stage, case: Case) -> Drawing
+/// What a case draws by, with these vertices and these units.
+pub(crate) fn drawing_of<'a>(
+    stage: Stage,
+    first_unit: Option<Unit<'a>>,
+    second_unit: Option<Unit<'a>>,
+    case: Case,
+) -> Drawing<'a>
     requires arrays { HasArrays stage }
     ensures { IsDrawing result }
 {
@@ -116,6 +123,8 @@ pub(crate) fn drawing_of(stage: Stage, case: Case) -> Drawing
         culls: case.culls,
         cull_face: case.cull_face,
         front_face: case.front_face,
+        first_unit,
+        second_unit,
         fragments: fragments_of(case),
     }
 }
@@ -124,6 +133,20 @@ pub(crate) fn drawing_of(stage: Stage, case: Case) -> Drawing
 pub(crate) fn colour_at(frame: &Frame, column: u8, row: u8) -> u32 {
     let [red, green, blue, _] = frame.pixel(i32::from(column), i32::from(row));
     u32::from(red) * 65536 + u32::from(green) * 256 + u32::from(blue)
+}
+
+/// The frame has these colours, the rows from the top.
+pub(crate) fn is_shown(rt: &impl Abort, frame: &Frame, picture: &[u32; 20]) -> Result<(), Fail> {
+    for row in 0..4_u8 {
+        for column in 0..5_u8 {
+            assert_eq!(rt;
+                colour_at(frame, column, 3 - row),
+                picture[5 * usize::from(row) + usize::from(column)],
+                "column {column} row {row}"
+            );
+        }
+    }
+    Ok(())
 }
 
 /// Indices of a type, which lie from a place on in the memory with the number `buffer`.

@@ -5,7 +5,7 @@ ghost use Rattle.gl_tracked.specs.Tracked.{IsArray};
 ghost use Rattle.vertex_stage.specs.Vertex.{HasArrays};
 
 use crate::cases::{CASES, Case, VERTICES};
-use crate::drawings::{Indices, array_of, colour_at, drawing_of, elements_of, stage_of};
+use crate::drawings::{Indices, array_of, drawing_of, elements_of, is_shown, stage_of};
 use crate::stores::{BUFFER, Stores, bytes_at};
 use fragment_ops::{FragmentState, Frame};
 use gl_tracked::ArrayState;
@@ -137,7 +137,7 @@ fn is_drawn(
     case: Case,
     way: Way,
 ) -> Result<(), Fail> {
-    let drawing = drawing_of(stage(case, way), case);
+    let drawing = drawing_of(stage(case, way), None, None, case);
     agreement_law(&drawing, stores, stores);
     let mut frame = Frame::new(alloc, 5, 4)?;
     let clearing = FragmentState {
@@ -154,16 +154,7 @@ fn is_drawn(
         elements,
         u32::from(case.count),
     );
-    for row in 0..4_u8 {
-        for column in 0..5_u8 {
-            assert_eq!(rt;
-                colour_at(&frame, column, 3 - row),
-                case.picture[5 * usize::from(row) + usize::from(column)],
-                "column {column} row {row}"
-            );
-        }
-    }
-    Ok(())
+    is_shown(rt, &frame, &case.picture)
 }
 
 #[test]

@@ -154,7 +154,7 @@ fn indices_of(row: Row) -> Option<Indices> {
 }
 
 /// What draws the triangle of a row in white into four columns and rows.
-fn drawing_by(row: Row) -> Drawing
+fn drawing_by<'a>(row: Row) -> Drawing<'a>
     ensures { IsDrawing result }
 {
     let (buffer, pointer) = row.array;
@@ -170,7 +170,7 @@ fn drawing_by(row: Row) -> Drawing
         view: ([0, 0], [4, 4]),
         ..PLAIN
     };
-    drawing_of(stage_of(vertices, colours, true, 65536), case)
+    drawing_of(stage_of(vertices, colours, true, 65536), None, None, case)
 }
 
 /// A row's triangle is its picture: F for each pixel that is white, the rows from the top; the others are black.

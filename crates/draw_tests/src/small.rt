@@ -33,7 +33,8 @@ fn shows(
         view: ([0, 0], [4, 4]),
         ..case
     };
-    let drawing = drawing_of(stage_of(vertex, others, true, i32::from(grey) + 1), whole);
+    let stage = stage_of(vertex, others, true, i32::from(grey) + 1);
+    let drawing = drawing_of(stage, None, None, whole);
     let mut frame = Frame::new(alloc, 4, 4)?;
     draw(
         &mut frame,

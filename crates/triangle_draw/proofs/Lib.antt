@@ -3,6 +3,7 @@ pub mod Putting
 pub mod Areas
 pub mod Cells
 pub mod Shades
+mod Texturing
 pub mod Alike
 pub mod RowChanges
 pub mod Culling

@@ -13,7 +13,8 @@ use Rattle.fragment_ops.proofs.FrameChanges.{frame_changed-alike, frame_changed-
 use Rattle.fragment_ops.proofs.Runs.{only_among-more, only_among-none}
 use Rattle.triangle_draw.specs.declared.drawing.Drawing.{Drawing}
 use Rattle.triangle_draw.specs.Fragments.{cell_after_all, cell_after_one}
-use Rattle.triangle_draw.specs.Triangle.{brought_by, colour_of, depth_between}
+use Rattle.triangle_draw.proofs.Texturing.{textured_colour-moved}
+use Rattle.triangle_draw.specs.Triangle.{brought_by, depth_between, textured_colour}
 
 -- what holds of every fragment of a list holds of the first, and of those after it
 pub first_all : (P : Fragment → Type 0) (list : List Fragment) (f : Fragment) → All P list → first list ≡ Some f → P f
@@ -36,7 +37,7 @@ module _ (drawing : Drawing) where
       ∙ ap (λ (l : List ℕ). put_at x' y' depth' l frame) s
 
   one_put : (f : Fragment) (frame : FrameView)
-      → put_at f.x f.y (depth_between drawing.depth_range f.depth) (colour_of f) frame ≡ frame_changed (cell_after_one drawing f) frame
+      → put_at f.x f.y (depth_between drawing.depth_range f.depth) (textured_colour drawing f) frame ≡ frame_changed (cell_after_one drawing f) frame
   unfolding cell_after_one brought_by
   one_put f frame = refl
 
@@ -46,6 +47,12 @@ module _ (drawing : Drawing) where
   put_more f fs frame new is =
       ap (frame_changed (cell_after_all drawing fs)) is ∙ frame_changed-twice (cell_after_one drawing f) (cell_after_all drawing fs) frame
 
+  -- one fragment is hidden
+  pub one_hidden : (f : Fragment) (x y : ℤ) (depth : ℕ) (frame : FrameView) → IsFrame frame → x ≡ f.x → y ≡ f.y → depth ≡ depth_between drawing.depth_range f.depth
+      → is_hidden drawing.fragments frame x y depth ≡ true → frame ≡ frame_changed (cell_after_one drawing f) frame
+  one_hidden f x y depth frame whole across upwards deep hidden =
+      frame_changed-hidden drawing.fragments frame depth (textured_colour drawing f) x y whole hidden ∙ put_at-same frame across upwards deep refl ∙ one_put f frame
+
   -- no fragment
   pub put_none : (frame : FrameView) → frame ≡ frame_changed (cell_after_all drawing []) frame
   unfolding cell_after_all
@@ -53,7 +60,7 @@ module _ (drawing : Drawing) where
 
   -- the first fragment is put
   pub put_first : (list : List Fragment) (f : Fragment) (spot : Spot) (x y : ℤ) (depth : ℕ) (colour : List ℕ) (frame new : FrameView)
-      → Some spot ≡ first_spot list → first list ≡ Some f → x ≡ spot.x → y ≡ spot.y → depth ≡ depth_between drawing.depth_range spot.depth → colour ≡ colour_of f
+      → Some spot ≡ first_spot list → first list ≡ Some f → x ≡ spot.x → y ≡ spot.y → depth ≡ depth_between drawing.depth_range spot.depth → colour ≡ textured_colour drawing f
       → new ≡ put_at x y depth colour frame
       → frame_changed (cell_after_all drawing (rest list)) new ≡ frame_changed (cell_after_all drawing list) frame
   put_first [] f spot x y depth colour frame new looked is across upwards deep shade e = cc
@@ -63,7 +70,7 @@ module _ (drawing : Drawing) where
       put_more g gs frame new (
       e
       ∙ put_at-same frame (across ∙ ap (λ (s : Spot). s.x) there) (upwards ∙ ap (λ (s : Spot). s.y) there)
-      (deep ∙ ap (λ (s : Spot). depth_between drawing.depth_range s.depth) there) (shade ∙ ap colour_of same)
+      (deep ∙ ap (λ (s : Spot). depth_between drawing.depth_range s.depth) there) (shade ∙ ap (textured_colour drawing) same)
       ∙ one_put g frame
       )
 
@@ -76,7 +83,7 @@ module _ (drawing : Drawing) where
   first_hidden (g ∷ gs) spot x y depth frame whole looked across upwards deep hidden =
       let there : spot ≡ spot_of g = cc in
       put_more g gs frame frame (
-      frame_changed-hidden drawing.fragments frame depth (colour_of g) x y whole hidden
+      frame_changed-hidden drawing.fragments frame depth (textured_colour drawing g) x y whole hidden
       ∙ put_at-same frame (across ∙ ap (λ (s : Spot). s.x) there) (upwards ∙ ap (λ (s : Spot). s.y) there)
       (deep ∙ ap (λ (s : Spot). depth_between drawing.depth_range s.depth) there) refl
       ∙ one_put g frame
@@ -103,20 +110,25 @@ run_first P f zero some all = absurd (omega arith)
 run_first P f (suc count) some all = first_all P (run_of f (suc count)) f all refl
 
 module _ (drawing : Drawing) where
+  -- what a fragment of this depth and colour makes of a cell, wherever it lies
+  abbrev put_with : ℕ → List ℕ → Place → Cell → Cell
+  put_with depth colour place = cell_after_put place drawing.fragments (record { depth = depth_between drawing.depth_range depth; colour = colour })
+
   -- what a fragment of a run makes of a cell, wherever it lies in it
   abbrev put_of : Fragment → Place → Cell → Cell
-  put_of f place = cell_after_put place drawing.fragments (record { depth = depth_between drawing.depth_range f.depth; colour = colour_of f })
+  put_of f = put_with f.depth (textured_colour drawing f)
 
   run_cells : (f : Fragment) (count : ℕ) (place : Place) (old : Cell) → only_among f.x f.y count (put_of f) place old ≡ cell_after_all drawing (run_of f count) place old
-  unfolding cell_after_all cell_after_one brought_by colour_of
+  unfolding cell_after_all cell_after_one brought_by
   run_cells f zero place old = only_among-none f.x f.y (put_of f) place old
   run_cells f (suc count) place old =
       sym (only_among-more f.x f.y (put_of f) place old count)
+      ∙ ap (λ (colour : List ℕ). only_among (f.x +ℤ pos 1) f.y count (put_with f.depth colour) place (only_at f.x f.y (put_of f) place old)) (sym (textured_colour-moved drawing f (f.x +ℤ pos 1)))
       ∙ run_cells (record f { x = f.x +ℤ pos 1 }) count place (only_at f.x f.y (put_of f) place old)
 
   -- the fragments of a run are put at once
   pub run_put : (f : Fragment) (count : ℕ) (x y : ℤ) (depth : ℕ) (colour : List ℕ) (frame : FrameView) → x ≡ f.x → y ≡ f.y
-      → depth ≡ depth_between drawing.depth_range f.depth → colour ≡ colour_of f
+      → depth ≡ depth_between drawing.depth_range f.depth → colour ≡ textured_colour drawing f
       → frame_changed (only_among x y count (λ place. cell_after_put place drawing.fragments (record { depth = depth; colour = colour }))) frame
       ≡ frame_changed (cell_after_all drawing (run_of f count)) frame
   run_put f count x y depth colour frame across upwards deep shade =
@@ -128,7 +140,7 @@ module _ (drawing : Drawing) where
 
   -- one fragment is put
   pub one_is_put : (f : Fragment) (x y : ℤ) (depth : ℕ) (colour : List ℕ) (frame new : FrameView) → x ≡ f.x → y ≡ f.y
-      → depth ≡ depth_between drawing.depth_range f.depth → colour ≡ colour_of f → new ≡ put_at drawing x y depth colour frame
+      → depth ≡ depth_between drawing.depth_range f.depth → colour ≡ textured_colour drawing f → new ≡ put_at drawing x y depth colour frame
       → new ≡ frame_changed (cell_after_one drawing f) frame
   one_is_put f x y depth colour frame new across upwards deep shade is =
       is ∙ put_at-same drawing frame across upwards deep shade ∙ one_put drawing f frame

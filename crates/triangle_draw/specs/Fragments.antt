@@ -1,5 +1,5 @@
 -- What fragments make of a cell one after the other, and changes of some rows alone, for private clauses.
-use Rattle.std.specs.Prelude.{◌≡◌, ℤ, pos, int_lt, false, if◌then◌else◌, List, [], ◌∷◌}
+use Rattle.std.specs.Prelude.{◌≡◌, ℤ, pos, int_lt, false, if◌then◌else◌, List, [], ◌∷◌, None}
 use Rattle.triangle_raster.specs.declared.fragment.Fragment.{Fragment}
 use Rattle.triangle_raster.specs.declared.vertex.Vertex.{Vertex}
 use Rattle.triangle_raster.specs.Pixel.{delta_of}
@@ -25,6 +25,11 @@ cell_after_all drawing (fragment ∷ fragments) place old = cell_after_all drawi
 -- a change of the rows below row y alone, in pixels from the lower side; own
 unfoldable pub below_row : ℤ → (Place → Cell → Cell) → Place → Cell → Cell
 below_row y change place old = if int_lt (pos place.row) y then change place old else old
+
+-- no texture unit takes part; section 3.7.12
+pub record IsPlain (drawing : Drawing) : Type 0 where
+  pub no_first : drawing.first_unit ≡ None
+  pub no_second : drawing.second_unit ≡ None
 
 -- the colours of three corners are 0 to 1; section 2.12.1
 pub record HaveShades (corners : List Vertex) : Type 0 where

@@ -1,4 +1,5 @@
 pub mod Drawing
+pub mod Unit
 pub mod Triangle
 pub mod Elements
 pub mod Draw
@@ -8,4 +9,7 @@ pub mod Fragments
 pub use Rattle.gl_memory.specs.Segment
 pub use Rattle.fragment_ops.specs.Frame
 pub use Rattle.fragment_ops.specs.State
+pub use Rattle.texture_units.specs.Texture
+pub use Rattle.texture_units.specs.Sample
+pub use Rattle.texture_units.specs.Environment
 pub use Rattle.vertex_stage.specs.Vertex

@@ -9,7 +9,10 @@ use Rattle.fragment_ops.specs.declared.place.Place.{Place}
 use Rattle.fragment_ops.specs.Blend.{parts}
 use Rattle.fragment_ops.specs.Cell.{Fragment as Brought, cell_after_put, is_within}
 use Rattle.fragment_ops.specs.State.{byte_of, number_at}
+use Rattle.texture_units.specs.Environment.{combined}
+use Rattle.texture_units.specs.Sample.{sampled}
 use Rattle.triangle_draw.specs.declared.drawing.Drawing.{Drawing}
+use Rattle.triangle_draw.specs.Unit.{UnitView}
 use Rattle.triangle_draw.specs.Drawing.{is_culled}
 
 -- a depth between those of the near and the far plane, which are fixed numbers of 0 to 1: 0 becomes that of the near one, 65535 that of the far one; section 2.10.1, the rounding own
@@ -20,9 +23,24 @@ depth_between range depth = (unsigned_abs (number_at range 0) * (65535 - depth) 
 unfoldable pub colour_of : Fragment → List ℕ
 colour_of fragment = map (λ part. byte_of (number_at fragment.values part)) parts
 
--- what a fragment brings to its place: its depth in the window, and its colour; sections 2.10.1 and 3.5.1. No texture changes it yet
+-- what a unit's texture gives a fragment whose values from a place on are its coordinates s, t and q; section 3.7.8
+unfoldable pub texel_of : UnitView → Fragment → ℕ → List ℕ
+texel_of unit fragment at =
+    sampled unit.texture unit.sampling (number_at fragment.values at) (number_at fragment.values (at + 1)) (number_at fragment.values (at + 2))
+
+-- a colour after a unit, if it takes part: what its mode makes of the colour and of the unit's texel; section 3.7.12
+abbrev pub colour_after_unit : Option UnitView → Fragment → ℕ → List ℕ → List ℕ
+colour_after_unit None fragment at colour = colour
+colour_after_unit (Some unit) fragment at colour = combined unit.mode unit.texture.format colour (texel_of unit fragment at) unit.constant
+
+-- the colour of a fragment after unit 0, whose coordinates are its values from 4 on, and then after unit 1, whose coordinates are those from 7 on; section 3.7.12
+unfoldable pub textured_colour : Drawing → Fragment → List ℕ
+textured_colour drawing fragment =
+    colour_after_unit drawing.second_unit fragment 7 (colour_after_unit drawing.first_unit fragment 4 (colour_of fragment))
+
+-- what a fragment brings to its place: its depth in the window, and its colour after the texture units; sections 2.10.1, 3.5.1 and 3.7.12
 unfoldable pub brought_by : Drawing → Fragment → Brought
-brought_by drawing fragment = record { depth = depth_between drawing.depth_range fragment.depth; colour = colour_of fragment }
+brought_by drawing fragment = record { depth = depth_between drawing.depth_range fragment.depth; colour = textured_colour drawing fragment }
 
 -- the cell at a place after a fragment came there, or none; chapter 4
 abbrev pub cell_after_fragment : Drawing → Option Fragment → Place → Cell → Cell

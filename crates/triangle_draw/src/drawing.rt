@@ -3,6 +3,7 @@
 ghost use Rattle.std.specs.Prelude.{◌≡◌, ℤ, pos, int_lt, not};
 ghost use Rattle.triangle_draw.specs.Drawing.{is_culled, shows_front};
 
+use crate::unit::Unit;
 use fragment_ops::FragmentState;
 use triangle_raster::View;
 use vertex_stage::Stage;
@@ -10,8 +11,8 @@ use vertex_stage::Stage;
 /// What a draw goes by besides memory. The calls that take one have as their condition that its arrays have elements of
 /// numbers that there are, that its viewport is within its bounds, that depths are 0 to 1, and that its fragments have a
 /// state. Chapters 2 to 4, that it is one value own.
-#[derive(Clone, Copy)]
-pub struct Drawing {
+#[derive(Drop)]
+pub struct Drawing<'a> {
     /// What vertices are made from: arrays, current values and matrices, 16.16 fixed (sections 2.7, 2.8, 2.10 and 2.12).
     pub stage: Stage,
     /// The viewport, in pixels from the lower left corner of the frame (section 2.10.1).
@@ -24,6 +25,10 @@ pub struct Drawing {
     pub cull_face: u32,
     /// The winding of front faces by its number: CW 0x900 or CCW 0x901 (section 2.12.1).
     pub front_face: u32,
+    /// Texture unit 0, if it takes part (section 3.7.12).
+    pub first_unit: Option<Unit<'a>>,
+    /// Texture unit 1, if it takes part (section 3.7.12).
+    pub second_unit: Option<Unit<'a>>,
     /// What becomes of fragments (chapter 4).
     pub fragments: FragmentState,
 }
@@ -31,7 +36,7 @@ pub struct Drawing {
 /// CCW: counter-clockwise.
 const CCW: u32 = 0x901;
 
-impl Drawing {
+impl<'a> Drawing<'a> {
     /// Whether a triangle shows its front, by whether its corners run counter-clockwise and not clockwise.
     #[tactic(auto, unfolding(crate::specs::Drawing::shows_front))]
     fn shows_front(&self, counter_clockwise: bool) -> bool

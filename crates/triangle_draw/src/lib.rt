@@ -7,8 +7,11 @@ mod elements;
 mod fragments;
 pub mod laws;
 mod rows;
+mod textured;
 mod triangles;
+mod unit;
 
 pub use drawing::Drawing;
 pub use elements::Elements;
 pub use triangles::draw;
+pub use unit::Unit;

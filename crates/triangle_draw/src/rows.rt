@@ -13,7 +13,7 @@ use crate::drawing::Drawing;
 use fragment_ops::Frame;
 use triangle_raster::{Area, Setup, Vertex};
 
-impl Drawing {
+impl<'a> Drawing<'a> {
     /// Puts the fragments of a triangle that isn't culled.
     fn put_rows(&self, corners: &[Vertex; 3], area: Area, setup: &Setup, frame: &mut Frame)
         requires drawing { IsDrawing self.now }
@@ -26,7 +26,7 @@ impl Drawing {
     {
         let extent = setup.rows();
         for y in extent.bottom..extent.top {
-            self.put_row(setup.row(y), frame);
+            self.put_row(setup, y, frame);
         }
     }
 

@@ -17,8 +17,8 @@ returns-then-hides-clause-frame c =
     ∙ first_hidden c.args.self.now c.args.row.now spot _ _ c.depth_between-depth.result c.args.frame.now c.hides.ensures.whole c.requires.spot
     (to_z-of_z w32 spot.x in_x) (to_z-of_z w32 spot.y in_y) c.depth_between-depth.ensures (sym c.hides.ensures.hidden ∙ c.if-hides.true)
 
-pub colour_of-colour-requires : goal.colour_of-colour-requires
-colour_of-colour-requires c =
+pub textured_colour-colour-requires : goal.textured_colour-colour-requires
+textured_colour-colour-requires c =
     record { shades = first_all (λ (f : Fragment). AreWithinOne f.values) c.args.row.now c.in-Some.fragment c.requires.shades (sym c.next.ensures.next ∙ c.in-Some.is) }
 
 pub returns-in-Some-clause-frame : goal.returns-in-Some-clause-frame
@@ -27,5 +27,5 @@ returns-in-Some-clause-frame c =
     let in_x : FitsSigned w32 spot.x = search rules in
     let in_y : FitsSigned w32 spot.y = search rules in
     ap (λ (list : List Fragment). frame_changed (cell_after_all c.args.self.now list) c.put.new.self) c.next.ensures.left
-    ∙ put_first c.args.self.now c.args.row.now c.in-Some.fragment spot _ _ c.depth_between-depth.result c.colour_of-colour.result c.args.frame.now c.put.new.self c.requires.spot
-    (sym c.next.ensures.next ∙ c.in-Some.is) (to_z-of_z w32 spot.x in_x) (to_z-of_z w32 spot.y in_y) c.depth_between-depth.ensures c.colour_of-colour.ensures c.put.ensures
+    ∙ put_first c.args.self.now c.args.row.now c.in-Some.fragment spot _ _ c.depth_between-depth.result c.textured_colour-colour.result c.args.frame.now c.put.new.self c.requires.spot
+    (sym c.next.ensures.next ∙ c.in-Some.is) (to_z-of_z w32 spot.x in_x) (to_z-of_z w32 spot.y in_y) c.depth_between-depth.ensures c.textured_colour-colour.ensures c.put.ensures

@@ -2,6 +2,7 @@ use Rattle.std.proofs.Common.{rules, w32}
 use Rattle.std.proofs.lemmas.Int.{to_z-of_z}
 use Rattle.std.specs.Prelude.{FitsSigned}
 use Rattle.triangle_draw.proofs.Putting.{one_is_put}
+use Rattle.triangle_draw.proofs.Texturing.{plain_colour}
 use Rattle.triangle_draw.proofs.drawing.Drawing.put_one.Goals as goal
 
 pub returns : goal.returns
@@ -10,4 +11,4 @@ returns c =
     let in_x : FitsSigned w32 f.x = search rules in
     let in_y : FitsSigned w32 f.y = search rules in
     one_is_put c.args.self.now f _ _ c.depth_between-depth.result c.colour_of-colour.result c.args.frame.now c.put.new.self
-    (to_z-of_z w32 f.x in_x) (to_z-of_z w32 f.y in_y) c.depth_between-depth.ensures c.colour_of-colour.ensures c.put.ensures
+    (to_z-of_z w32 f.x in_x) (to_z-of_z w32 f.y in_y) c.depth_between-depth.ensures (plain_colour c.args.self.now f c.colour_of-colour.result c.requires.plain c.colour_of-colour.ensures) c.put.ensures

@@ -14,7 +14,7 @@ use Rattle.triangle_draw.proofs.drawing.Drawing.put_rows.Goals as goal
 pub put_row-requires-clause-shades : goal.put_row-requires-clause-shades
 put_row-requires-clause-shades c =
     let y = to_z w32 c.loop-y.y-bits in
-    let made = c.row.ensures ∙ ap (λ (t : Triangle). fragments_of t y) c.requires.setup in
+    let made = ap (λ (t : Triangle). fragments_of t y) c.requires.setup in
     subst (All (λ (f : Fragment). AreWithinOne f.values)) (sym made) (shades_of_row c.args.corners.now c.args.self.now.view c.args.area y c.requires.shades)
 
 pub loop-y-init : goal.loop-y-init
@@ -37,7 +37,7 @@ loop-y-preserved c =
     let to : top ≤ℤ pos 256 = c.rows-extent.ensures.bounds.1.1 in
     let under : y <ℤ to_z w32 (of_z w32 top) = omega (arith, ints) in
     let next : (y +ℤ pos 1) ≡ to_z w32 (of_z w32 (y +ℤ pos 1)) = omega (arith, ints) in
-    let made = c.row.ensures ∙ ap (λ (t : Triangle). fragments_of t y) c.requires.setup in
+    let made = ap (λ (t : Triangle). fragments_of t y) c.requires.setup in
     rows_more c.args.self.now c.args.corners.now c.args.frame.now c.requires.whole c.args.area c.requires.area y c.loop-y.frame c.put_row.new.frame c.requires.kept c.loop-y.invariant
     (c.put_row.ensures ∙ ap (λ (fs : List Fragment). frame_changed (cell_after_all c.args.self.now fs) c.loop-y.frame) made)
     ∙ ap (λ (z : ℤ). frame_changed (below_row z change) c.args.frame.now) next

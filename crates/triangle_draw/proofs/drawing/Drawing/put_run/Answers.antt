@@ -9,8 +9,8 @@ use Rattle.triangle_draw.specs.Fragments.{cell_after_all}
 use Rattle.triangle_draw.proofs.Putting.{put_none, run_first, run_put}
 use Rattle.triangle_draw.proofs.drawing.Drawing.put_run.Goals as goal
 
-pub colour_of-colour-requires : goal.colour_of-colour-requires
-colour_of-colour-requires c = record { shades = run_first (λ (f : Fragment). AreWithinOne f.values) c.args.run.now.first c.args.run.now.count (omega arith) c.requires.shades }
+pub textured_colour-colour-requires : goal.textured_colour-colour-requires
+textured_colour-colour-requires c = record { shades = run_first (λ (f : Fragment). AreWithinOne f.values) c.args.run.now.first c.args.run.now.count (omega arith) c.requires.shades }
 
 pub returns-then-run-eq0 : goal.returns-then-run-eq0
 returns-then-run-eq0 c =
@@ -25,5 +25,5 @@ returns c =
     let in_x : FitsSigned w32 run.first.x = search rules in
     let in_y : FitsSigned w32 run.first.y = search rules in
     c.put_run.ensures
-    ∙ run_put c.args.self.now run.first run.count _ _ c.depth_between-depth.result c.colour_of-colour.result c.args.frame.now
-    (to_z-of_z w32 run.first.x in_x) (to_z-of_z w32 run.first.y in_y) c.depth_between-depth.ensures c.colour_of-colour.ensures
+    ∙ run_put c.args.self.now run.first run.count _ _ c.depth_between-depth.result c.textured_colour-colour.result c.args.frame.now
+    (to_z-of_z w32 run.first.x in_x) (to_z-of_z w32 run.first.y in_y) c.depth_between-depth.ensures c.textured_colour-colour.ensures

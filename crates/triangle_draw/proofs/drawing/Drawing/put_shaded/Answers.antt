@@ -6,6 +6,7 @@ use Rattle.fragment_ops.specs.Frame.{frame_changed}
 use Rattle.fragment_ops.specs.State.{AreWithinOne}
 use Rattle.triangle_draw.specs.Fragments.{cell_after_all}
 use Rattle.triangle_draw.proofs.Putting.{at_last, first_all, next_put, one_is_put, rest_all}
+use Rattle.triangle_draw.proofs.Texturing.{plain_colour}
 use Rattle.triangle_draw.proofs.drawing.Drawing.put_shaded.Goals as goal
 
 pub colour_of-colour-requires : goal.colour_of-colour-requires
@@ -23,7 +24,7 @@ loop-fragment-preserved c =
           ap (λ (list : List Fragment). frame_changed (cell_after_all c.args.self.now list) c.put.new.self) c.next.ensures.left
           ∙ next_put c.args.self.now c.loop-fragment.left f c.loop-fragment.frame c.put.new.self (sym c.next.ensures.next ∙ c.in-Some.is)
           (one_is_put c.args.self.now f _ _ c.depth_between-depth.result c.colour_of-colour.result c.loop-fragment.frame c.put.new.self
-          (to_z-of_z w32 f.x in_x) (to_z-of_z w32 f.y in_y) c.depth_between-depth.ensures c.colour_of-colour.ensures c.put.ensures)
+          (to_z-of_z w32 f.x in_x) (to_z-of_z w32 f.y in_y) c.depth_between-depth.ensures (plain_colour c.args.self.now f c.colour_of-colour.result c.requires.plain c.colour_of-colour.ensures) c.put.ensures)
           ∙ c.loop-fragment.invariant.same_end;
       shades = subst (All shaded) (sym c.next.ensures.left) (rest_all shaded c.loop-fragment.left c.loop-fragment.invariant.shades);
     }
