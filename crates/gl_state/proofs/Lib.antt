@@ -4,7 +4,9 @@ pub mod Clamping
 pub mod Depths
 pub mod Events
 pub mod Getting
+pub mod ImageRows
 pub mod Matrices
 pub mod Naming
 pub mod Stepping
+pub mod Textures
 pub mod Uploads

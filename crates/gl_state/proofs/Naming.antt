@@ -4,7 +4,7 @@ use Rattle.std.specs.List.{filter, range_with_len}
 use Rattle.std.specs.Prelude.{int_lt, IfSome}
 use Rattle.std.proofs.lemmas.Option.{none-some}
 use Rattle.gl_words.specs.declared.call.Call.{Call}
-use Rattle.gl_words.specs.declared.call.Call.TheVariants.{BindBuffer, BindTexture, BufferData, BufferSubData, DeleteBuffers, DeleteTextures, DrawArrays, DrawElements, GenBuffers, GenTextures, GetIntegerv, GetPointerv, IsBuffer, IsEnabled, IsTexture}
+use Rattle.gl_words.specs.declared.call.Call.TheVariants.{BindBuffer, BindTexture, BufferData, BufferSubData, DeleteBuffers, DeleteTextures, DrawArrays, DrawElements, GenBuffers, GenTextures, GetIntegerv, GetPointerv, IsBuffer, IsEnabled, IsTexture, TexImage2D, TexParameteri, TexSubImage2D}
 use Rattle.gl_words.specs.declared.error.GlError.{GlError}
 use Rattle.gl_memory.specs.Segment.{Segment}
 use Rattle.gl_objects.specs.declared.event.Event.{Event}
@@ -44,6 +44,9 @@ ask_of-others p (GenBuffers n names) other = absurd (other refl)
 ask_of-others p (GenTextures n names) other = absurd (other refl)
 ask_of-others p (IsBuffer buffer) other = absurd (other refl)
 ask_of-others p (IsTexture texture) other = absurd (other refl)
+ask_of-others p (TexImage2D target level internalformat width height border format kind pixels) other = absurd (other refl)
+ask_of-others p (TexParameteri target pname param) other = absurd (other refl)
+ask_of-others p (TexSubImage2D target level xoffset yoffset width height format kind pixels) other = absurd (other refl)
 ask_of-others p _ other = refl
 
 -- only draws use objects
@@ -120,6 +123,9 @@ gives_content-asked p (GenBuffers n names) ask is has = absurd (cc)
 gives_content-asked p (GenTextures n names) ask is has = absurd (cc)
 gives_content-asked p (IsBuffer buffer) ask is has = content_by (eqb buffer 0) (asks.Is kinds.Buffer buffer) ask false (λ h. h) is has
 gives_content-asked p (IsTexture texture) ask is has = content_by (eqb texture 0) (asks.Is kinds.Texture texture) ask false (λ h. h) is has
+gives_content-asked p (TexImage2D target level internalformat width height border format kind pixels) ask is has = refl
+gives_content-asked p (TexParameteri target pname param) ask is has = absurd (cc)
+gives_content-asked p (TexSubImage2D target level xoffset yoffset width height format kind pixels) ask is has = refl
 gives_content-asked p _ ask is has = absurd (none-some ask is)
 
 wanted_by : (zero : Bool) (one ask : Ask) → cond zero None (Some one) ≡ Some ask → names_wanted ask ≡ names_wanted one
@@ -139,6 +145,9 @@ wanted-room p (GenBuffers n names) ask is = cc
 wanted-room p (GenTextures n names) ask is = cc
 wanted-room p (IsBuffer buffer) ask is = wanted_by (eqb buffer 0) (asks.Is kinds.Buffer buffer) ask is
 wanted-room p (IsTexture texture) ask is = wanted_by (eqb texture 0) (asks.Is kinds.Texture texture) ask is
+wanted-room p (TexImage2D target level internalformat width height border format kind pixels) ask is = cc
+wanted-room p (TexParameteri target pname param) ask is = cc
+wanted-room p (TexSubImage2D target level xoffset yoffset width height format kind pixels) ask is = cc
 wanted-room p _ ask is = absurd (none-some ask is)
 
 given-few : {T : Type 0} (table : List (ℕ × Named T)) (n : ℕ) (fault : Option GlError) → length (unless_fault fault (least_free table n) []) ≤ n

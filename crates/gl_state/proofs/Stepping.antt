@@ -1,11 +1,12 @@
 -- What a call does to private state with an error and without one, and what drivers need of it for their laws.
 use Rattle.std.proofs.Common.{◌≡◌, ◌≢◌, ℕ, ℤ, false, List, [], ◌∷◌, Option, Some, None, ◌⊎◌, inl, inr, refl, sym, subst, ap, ◌∙◌}
 use Rattle.std.specs.Option.{option_or}
+use Rattle.std.specs.Prelude.{slice_set}
 use Rattle.std.proofs.lemmas.List.Elements.{All-head}
 use Rattle.std.proofs.lemmas.Option.{none-some}
 use Rattle.gl_words.specs.Call.{is_answering}
 use Rattle.gl_words.specs.declared.call.Call.{Call}
-use Rattle.gl_words.specs.declared.call.Call.TheVariants.{BindBuffer, BindTexture, BufferData, BufferSubData, Clear, DeleteBuffers, DeleteTextures, DrawArrays, DrawElements, GenBuffers, GenTextures, GetError, GetFixedv, GetIntegerv, GetPointerv, IsBuffer, IsEnabled, IsTexture, LoadMatrixx, MultMatrixx, ReadPixels}
+use Rattle.gl_words.specs.declared.call.Call.TheVariants.{BindBuffer, BindTexture, BufferData, BufferSubData, Clear, DeleteBuffers, DeleteTextures, DrawArrays, DrawElements, GenBuffers, GenTextures, GetError, GetFixedv, GetIntegerv, GetPointerv, IsBuffer, IsEnabled, IsTexture, LoadMatrixx, MultMatrixx, ReadPixels, TexEnvxv, TexImage2D, TexParameteri, TexSubImage2D}
 use Rattle.gl_words.specs.declared.error.GlError.{GlError}
 use Rattle.gl_memory.specs.Piece.{Agree}
 use Rattle.gl_memory.specs.Segment.{Segment}
@@ -16,7 +17,7 @@ use Rattle.gl_tracked.specs.declared.tracked.Tracked.{Tracked}
 use Rattle.gl_tracked.specs.Fault.{fault_of}
 use Rattle.gl_tracked.specs.Gets.{number_beside}
 use Rattle.gl_tracked.specs.Names.{without_buffers}
-use Rattle.gl_tracked.specs.Ranges.{range_of_matrix, range_of_names}
+use Rattle.gl_tracked.specs.Ranges.{range_of_colour, range_of_matrix, range_of_names}
 use Rattle.gl_tracked.specs.Reads.{AgreesOn, Ranges, Reads}
 use Rattle.driver_trait.specs.Reply.{Nothing, Numbers}
 use Rattle.gl_tracked.specs.Step.{set_by, unless_fault, tracked_after, number_asked, ranges_of, reads_all, reads_of}
@@ -28,9 +29,10 @@ use Rattle.gl_state.specs.declared.plan.Plan.TheVariants.{Ask as Asks, Draw, Fau
 use Rattle.gl_state.specs.declared.settings.Settings.{Settings}
 use Rattle.gl_state.specs.Gets.{alone, capability_rows, integers_asked, limit_rows, list_beside, rectangle_rows, setting_rows, truth_asked}
 use Rattle.gl_state.specs.Private.{PrivateView}
-use Rattle.gl_state.specs.Settings.{without_textures}
+use Rattle.gl_state.specs.Settings.{place_of_unit, without_textures}
 use Rattle.gl_state.specs.Stacks.{StacksView}
 use Rattle.gl_state.specs.Step.{error_set_by, fault_in, numbers_replied, plan_by, plan_found, plan_of, private_after, private_reply, recorded_by, settings_set_by, stacks_set_by, with_change, with_product}
+use Rattle.gl_state.proofs.ImageRows.{colour_from-same}
 use Rattle.gl_state.proofs.Matrices.{matrix_at-agree}
 
 fault_in-plan_by : (fault : Option GlError) (call : Call) → fault_in (plan_by fault call) ≡ fault
@@ -179,6 +181,9 @@ private_after-pixels_by p (IsBuffer buffer) memory ask query local = absurd (ask
 private_after-pixels_by p (IsEnabled cap) memory ask query local = absurd (query refl)
 private_after-pixels_by p (IsTexture texture) memory ask query local = absurd (ask refl)
 private_after-pixels_by p (ReadPixels x y width height format kind pixels) memory ask query local = refl
+private_after-pixels_by p (TexImage2D target level internalformat width height border format kind pixels) memory ask query local = absurd (ask refl)
+private_after-pixels_by p (TexParameteri target pname param) memory ask query local = absurd (ask refl)
+private_after-pixels_by p (TexSubImage2D target level xoffset yoffset width height format kind pixels) memory ask query local = absurd (ask refl)
 private_after-pixels_by p _ memory ask query local = absurd (local refl)
 
 tracked_of-private_after_by : (fault : Option GlError) (p : PrivateView) (call : Call) (memory : List Segment) (refused : Option GlError) → (private_after fault p call memory refused).tracked ≡ unless_fault fault p.tracked (set_by p.tracked call memory)
@@ -223,6 +228,16 @@ deletes_textures_same p count names m n refused agree =
     ap (λ (deleted : List ℕ). record p { error = recorded_by p.error refused; settings = without_textures deleted p.settings })
     (names_at-same m n names count (All-head (SameIn m n) (range_of_names names count) [] agree))
 
+-- a colour leaves the same on memories that agree where it lies
+colours_same : (p : PrivateView) (target pname params : ℕ) (m n : List Segment) (refused : Option GlError) → Agree m n (range_of_colour params ∷ [])
+    → private_after None p (TexEnvxv target pname params) m refused ≡ private_after None p (TexEnvxv target pname params) n refused
+unfolding set_by stacks_set_by settings_set_by
+colours_same p target pname params m n refused agree =
+    ap (λ (colour : List ℤ). record p {
+      error = recorded_by p.error refused;
+      settings = record p.settings { environment_colour = slice_set p.settings.environment_colour (place_of_unit p.tracked.active) colour };
+    }) (colour_from-same m n params (All-head (SameIn m n) (range_of_colour params) [] agree))
+
 private_after-reads_by : (p : PrivateView) (call : Call) (m n : List Segment) (refused : Option GlError) → Agree m n (ranges_of p.tracked call m)
     → private_after None p call m refused ≡ private_after None p call n refused
 unfolding ranges_of set_by stacks_set_by settings_set_by
@@ -230,6 +245,7 @@ private_after-reads_by p (DeleteBuffers count names) m n refused agree = deletes
 private_after-reads_by p (DeleteTextures count names) m n refused agree = deletes_textures_same p count names m n refused agree
 private_after-reads_by p (LoadMatrixx matrix) m n refused agree = loads_same p matrix m n refused agree
 private_after-reads_by p (MultMatrixx matrix) m n refused agree = multiplies_same p matrix m n refused agree
+private_after-reads_by p (TexEnvxv target pname params) m n refused agree = colours_same p target pname params m n refused agree
 private_after-reads_by p _ m n refused agree = refl
 
 -- the step is the same on memories that agree where the call reads

@@ -1,8 +1,9 @@
 -- What calls set besides stacks, tracked state and errors, its values at the start, and what fragment operations take of it. No driver, batch or front stands here.
-use Rattle.std.specs.Prelude.{ℕ, ◌==◌, ℤ, pos, neg_ℤ, ◌≤ℤ◌, int_lt, if◌then◌else◌, Bool, true, false, List, [], ◌∷◌, map, slice_set}
+use Rattle.std.specs.Prelude.{ℕ, ◌==◌, ℤ, pos, neg_ℤ, ◌≤ℤ◌, int_lt, if◌then◌else◌, Bool, true, false, List, [], ◌∷◌, map, slice_set, All}
 use Rattle.fragment_ops.specs.declared.state.FragmentState.{FragmentState}
 use Rattle.fragment_ops.specs.State.{number_at, AreWithinOne, IsOneOf, IsRectangle, IsWithinOne}
-use Rattle.gl_tracked.specs.Enumerants.{comparisons, dest_factors, faces, shadings, source_factors, windings}
+use Rattle.gl_tracked.specs.Count.{count_of}
+use Rattle.gl_tracked.specs.Enumerants.{comparisons, dest_factors, environment_modes, faces, shadings, source_factors, windings}
 use Rattle.gl_tracked.specs.Names.{binding_after}
 use Rattle.gl_state.specs.declared.settings.Capabilities.{Capabilities}
 use Rattle.gl_state.specs.declared.settings.Settings.{Settings}
@@ -80,7 +81,7 @@ without_textures names settings = record settings { bindings = map (binding_afte
 abbrev pub clamped_within : ℤ → ℤ → ℤ → ℤ
 clamped_within low high number = if int_lt number low then low else (if int_lt high number then high else number)
 
--- a fixed number clamped to 0 to 1; sections 2.10.1, 4.1.4 and 4.2.3
+-- a fixed number clamped to 0 to 1; sections 2.10.1, 3.7.12, 4.1.4 and 4.2.3
 abbrev pub clamped_to_one : ℤ → ℤ
 clamped_to_one number = clamped_within (pos 0) one number
 
@@ -99,7 +100,7 @@ IsViewport (x ∷ y ∷ width ∷ height ∷ []) =
     × (pos 0 ≤ℤ width) × (width ≤ℤ pos 512) × (pos 0 ≤ℤ height) × (height ≤ℤ pos 512)
 IsViewport _ = ⊥
 
--- the parts of the clear colour, the clear depth, the depths of the range and the reference of the alpha test are 0 to 1, and the viewport is within its bounds; sections 2.10.1, 4.1.4 and 4.2.3
+-- the parts of the clear colour and of the environments' colours, the clear depth, the depths of the range and the reference of the alpha test are 0 to 1, and the viewport is within its bounds; sections 2.10.1, 3.7.12, 4.1.4 and 4.2.3
 pub record AreClamped (settings : Settings) : Type 0 where
   pub clear_colour : AreWithinOne settings.clear_colour
   pub clear_depth : IsWithinOne settings.clear_depth
@@ -107,8 +108,13 @@ pub record AreClamped (settings : Settings) : Type 0 where
   pub far : IsWithinOne (number_at settings.depth_range 1)
   pub alpha_reference : IsWithinOne settings.alpha_reference
   pub viewport : IsViewport settings.viewport
+  pub environments : All AreWithinOne settings.environment_colour
 
--- the enumerants are such as calls accept, and the scissor has sides; sections 2.12.1, 2.12.7, 3.5.1, 4.1.2, 4.1.4, 4.1.6 and 4.1.7
+-- the modes of environments by their numbers; section 3.7.12
+abbrev pub mode_numbers : List ℕ
+mode_numbers = map count_of environment_modes
+
+-- the enumerants are such as calls accept, and the scissor has sides; sections 2.12.1, 2.12.7, 3.5.1, 3.7.12, 4.1.2, 4.1.4, 4.1.6 and 4.1.7
 pub record AreAccepted (settings : Settings) : Type 0 where
   pub shade_model : IsOneOf shadings settings.shade_model
   pub front_face : IsOneOf windings settings.front_face
@@ -118,6 +124,7 @@ pub record AreAccepted (settings : Settings) : Type 0 where
   pub depth_func : IsOneOf comparisons settings.depth_func
   pub source_factor : IsOneOf source_factors settings.source_factor
   pub dest_factor : IsOneOf dest_factors settings.dest_factor
+  pub environments : All (IsOneOf mode_numbers) settings.environment_mode
 
 -- what fragment operations take of settings; sections 4.1.2 to 4.2.3
 unfoldable pub fragment_state_of : Settings → FragmentState

@@ -1,7 +1,7 @@
--- What a call does to the private state of a context, what it replies, and what it needs beyond that state; sections 2.5, 2.7, 2.9, 2.10.1, 2.10.2, 2.12, 3.5.1, 3.7.11, 4.1, 4.2 and 6.1. An error is handed to each part: who carries the call out finds it once.
+-- What a call does to the private state of a context, what it replies, and what it needs beyond that state; sections 2.5, 2.7, 2.9, 2.10.1, 2.10.2, 2.12, 3.5.1, 3.7.11, 3.7.12, 4.1, 4.2 and 6.1. An error is handed to each part: who carries the call out finds it once.
 use Rattle.std.specs.Prelude.{ℕ, ℤ, pos, Bool, true, false, List, [], ◌∷◌, map, slice_set, Option, Some, None}
 use Rattle.gl_words.specs.declared.call.Call.{Call}
-use Rattle.gl_words.specs.declared.call.Call.TheVariants.{AlphaFuncx, BindBuffer, BindTexture, BlendFunc, BufferData, BufferSubData, Clear, ClearColorx, ClearDepthx, Color4x, ColorMask, CullFace, DeleteBuffers, DeleteTextures, DepthFunc, DepthMask, DepthRangex, Disable, DrawArrays, DrawElements, Enable, FrontFace, Frustumx, GenBuffers, GenTextures, GetError, GetFixedv, GetIntegerv, GetPointerv, IsBuffer, IsEnabled, IsTexture, LoadIdentity, LoadMatrixx, MultMatrixx, MultiTexCoord4x, Normal3x, Orthox, PopMatrix, PushMatrix, ReadPixels, Rotatex, Scalex, Scissor, ShadeModel, Translatex, Viewport}
+use Rattle.gl_words.specs.declared.call.Call.TheVariants.{AlphaFuncx, BindBuffer, BindTexture, BlendFunc, BufferData, BufferSubData, Clear, ClearColorx, ClearDepthx, Color4x, ColorMask, CullFace, DeleteBuffers, DeleteTextures, DepthFunc, DepthMask, DepthRangex, Disable, DrawArrays, DrawElements, Enable, FrontFace, Frustumx, GenBuffers, GenTextures, GetError, GetFixedv, GetIntegerv, GetPointerv, IsBuffer, IsEnabled, IsTexture, LoadIdentity, LoadMatrixx, MultMatrixx, MultiTexCoord4x, Normal3x, Orthox, PopMatrix, PushMatrix, ReadPixels, Rotatex, Scalex, Scissor, ShadeModel, TexEnvi, TexEnvxv, TexImage2D, TexParameteri, TexSubImage2D, Translatex, Viewport}
 use Rattle.gl_words.specs.declared.error.GlError.{GlError}
 use Rattle.gl_words.specs.GlError.{code_of}
 use Rattle.gl_memory.specs.Segment.{Segment}
@@ -22,6 +22,7 @@ use Rattle.gl_state.specs.declared.settings.Settings.{Settings}
 use Rattle.gl_state.specs.declared.plan.Plan.{Plan}
 use Rattle.gl_state.specs.declared.plan.Plan.TheVariants.{Ask as Asks, Draw, Fault, Known, Local, Query, Read}
 use Rattle.gl_state.specs.Gets.{alone, fixed_asked, fixed_length, integers_asked, integers_length, truth_asked}
+use Rattle.gl_state.specs.Images.{colour_from}
 use Rattle.gl_state.specs.Private.{PrivateView}
 use Rattle.gl_state.specs.Settings.{clamped_to_one, clamped_origin, clamped_side, place_of_unit, with_capability, without_textures}
 use Rattle.gl_state.specs.Stacks.{StacksView, current_of, matrix_at, with_current}
@@ -90,7 +91,13 @@ is_of_frame (ColorMask red green blue alpha) = true
 is_of_frame (DepthMask flag) = true
 is_of_frame _ = false
 
--- the settings after a call without an error on a memory, from which DeleteTextures takes names, by tracked state, whose active unit tells of which unit TEXTURE_2D and a bound texture are; sections 2.7, 2.10.1, 2.12.1, 2.12.7, 3.5.1, 3.7.11, 4.1.2 to 4.1.7, 4.2.2 and 4.2.3
+-- a call sets the environment of the active unit; section 3.7.12
+abbrev pub is_of_environment : Call → Bool
+is_of_environment (TexEnvi target pname param) = true
+is_of_environment (TexEnvxv target pname params) = true
+is_of_environment _ = false
+
+-- the settings after a call without an error on a memory, from which DeleteTextures takes names and TexEnvxv a colour, by tracked state, whose active unit tells of which unit TEXTURE_2D, a bound texture and an environment are; sections 2.7, 2.10.1, 2.12.1, 2.12.7, 3.5.1, 3.7.11, 3.7.12, 4.1.2 to 4.1.7, 4.2.2 and 4.2.3
 unfoldable pub settings_set_by : Tracked → Settings → Call → List Segment → Settings
 settings_set_by tracked settings (AlphaFuncx func reference) memory = record settings { alpha_func = func; alpha_reference = clamped_to_one reference }
 settings_set_by tracked settings (BindTexture target texture) memory =
@@ -116,6 +123,10 @@ settings_set_by tracked settings (MultiTexCoord4x target s t r q) memory =
 settings_set_by tracked settings (Normal3x nx ny nz) memory = record settings { normal = nx ∷ ny ∷ nz ∷ [] }
 settings_set_by tracked settings (Scissor x y width height) memory = record settings { scissor = x ∷ y ∷ width ∷ height ∷ [] }
 settings_set_by tracked settings (ShadeModel mode) memory = record settings { shade_model = mode }
+settings_set_by tracked settings (TexEnvi target pname param) memory =
+    record settings { environment_mode = slice_set settings.environment_mode (place_of_unit tracked.active) (count_of param) }
+settings_set_by tracked settings (TexEnvxv target pname params) memory =
+    record settings { environment_colour = slice_set settings.environment_colour (place_of_unit tracked.active) (colour_from memory params) }
 settings_set_by tracked settings (Viewport x y width height) memory =
     record settings { viewport = clamped_origin x ∷ clamped_origin y ∷ clamped_side width ∷ clamped_side height ∷ [] }
 settings_set_by tracked settings _ memory = settings
@@ -177,7 +188,7 @@ list_length (GetFixedv pname params) = fixed_length pname
 list_length (GetIntegerv pname params) = integers_length pname
 list_length _ = 0
 
--- what a call needs beyond the private state, with this error or none, where it asks for no number of tracked state: what binds, fills, names and deletes objects, or asks whether a name is that of one, may make an event of them; Clear and draws change the pixels of the frame, ReadPixels reads them, all others need nothing, of which the queries are answered; own
+-- what a call needs beyond the private state, with this error or none, where it asks for no number of tracked state: what binds, fills, sets, names and deletes objects, or asks whether a name is that of one, may make an event of them; Clear and draws change the pixels of the frame, ReadPixels reads them, all others need nothing, of which the queries are answered; own
 abbrev pub plan_by : Option GlError → Call → Plan
 plan_by (Some error) call = Fault error
 plan_by None (BindBuffer target buffer) = Asks
@@ -199,6 +210,9 @@ plan_by None (IsBuffer buffer) = Asks
 plan_by None (IsEnabled cap) = Query
 plan_by None (IsTexture texture) = Asks
 plan_by None (ReadPixels x y width height format kind pixels) = Read
+plan_by None (TexImage2D target level internalformat width height border format kind pixels) = Asks
+plan_by None (TexParameteri target pname param) = Asks
+plan_by None (TexSubImage2D target level xoffset yoffset width height format kind pixels) = Asks
 plan_by None _ = Local
 
 -- how a call is carried out that asks for this number of tracked state, or for none, with this error or none: a number is its answer; own

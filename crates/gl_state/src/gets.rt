@@ -40,7 +40,7 @@ impl Private {
 
     /// The place of the active unit among the units (section 3.7.12).
     #[tactic(auto, unfolding(crate::specs::Gets::active_unit))]
-    fn unit(&self) -> usize
+    pub(crate) fn unit(&self) -> usize
         ensures unit { result ≡ active_unit self.now }
         ensures few { result < 2 }
     {

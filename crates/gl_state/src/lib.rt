@@ -3,6 +3,7 @@
 
 mod ask;
 mod gets;
+mod images;
 mod plan;
 mod planning;
 mod private;
@@ -10,6 +11,7 @@ mod settings;
 mod stacks;
 
 pub use ask::Ask;
+pub use images::mode_of;
 pub use plan::Plan;
 pub use private::Private;
 pub use settings::{Capabilities, Settings};

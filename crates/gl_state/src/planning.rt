@@ -6,15 +6,16 @@ ghost use Rattle.gl_objects.specs.Step.{names_of};
 ghost use Rattle.gl_objects.specs.View.{ObjectsView};
 ghost use Rattle.gl_tracked.specs.Count.{count_of};
 ghost use Rattle.gl_tracked.specs.Fault.{fault_of};
-ghost use Rattle.gl_state.specs.Event.{ask_of, buffer_used, event_by, gives_content, texture_named, texture_used, unless_zero, use_by, use_of, use_unless_none, used_buffers, used_textures, used_unless_zero, IsAsk};
+ghost use Rattle.gl_state.specs.Event.{ask_of, buffer_used, changes_texture, event_by, gives_content, pitch_in, texture_bound, texture_named, texture_used, unless_zero, use_by, use_of, use_unless_none, used_buffers, used_textures, used_unless_zero, IsAsk};
 ghost use Rattle.gl_state.specs.Step.{fault_in, plan_by, plan_of, room_of};
 
 use crate::ask::Ask;
+use crate::images::format_of;
 use crate::plan::Plan;
 use crate::private::Private;
 use gl_memory::Memory;
 use gl_objects::{Event, Kind, UsedBuffers, UsedTextures};
-use gl_tracked::{ArrayState, Finding, count_of};
+use gl_tracked::{ArrayState, Finding, Tracked, count_of, pitch_of, side_of, texel_size};
 use gl_words::Call;
 use std::alloc::{AllocError as NoMemory, Global};
 
@@ -63,9 +64,10 @@ impl Private {
     }
 
     /// The event that a call without an error makes besides drawing, with its bytes and names still in memory (sections
-    /// 2.9, 3.7.11 and 6.1).
+    /// 2.9, 3.7.1, 3.7.2, 3.7.4, 3.7.11 and 6.1).
     #[tactic(auto, unfolding(crate::specs::Event::ask_of))]
     pub fn ask(&self, call: &Call) -> Option<Ask>
+        requires no_fault { fault_of self.now.tracked call.now ≡ None }
         ensures ask { result ≡ ask_of self.now call.now }
         ensures named { IfSome result IsAsk }
     {
@@ -99,8 +101,71 @@ impl Private {
             Call::GenTextures { n, .. } => Some(generate(Kind::Texture, *n)),
             Call::IsBuffer { buffer } => is(Kind::Buffer, *buffer),
             Call::IsTexture { texture } => is(Kind::Texture, *texture),
+            Call::TexImage2D { .. } | Call::TexParameteri { .. } | Call::TexSubImage2D { .. } =>
+                self.ask_of_texture(call),
             _ => None,
         }
+    }
+
+    /// The event of a call without an error that gives the bound texture an image, a part of one, or a parameter (sections
+    /// 3.7.1, 3.7.2 and 3.7.4).
+    #[tactic(auto, unfolding(crate::specs::Event::ask_of))]
+    fn ask_of_texture(&self, call: &Call) -> Option<Ask>
+        requires no_fault { fault_of self.now.tracked call.now ≡ None }
+        requires texture { changes_texture call.now ≡ true }
+        ensures ask { result ≡ ask_of self.now call.now }
+        ensures named { IfSome result IsAsk }
+    {
+        let name = self.texture_bound(self.unit());
+        match call {
+            Call::TexImage2D {
+                width,
+                height,
+                format,
+                pixels,
+                ..
+            } => Some(Ask::Image {
+                name,
+                format: format_of(*format),
+                width: side_of(*width),
+                height: side_of(*height),
+                pitch: pitch_in(self.tracked(), *format, *width),
+                source: *pixels,
+            }),
+            Call::TexParameteri { pname, param, .. } => Some(Ask::Parameter {
+                name,
+                pname: *pname,
+                value: *param,
+            }),
+            Call::TexSubImage2D {
+                xoffset,
+                yoffset,
+                width,
+                height,
+                format,
+                pixels,
+                ..
+            } => Some(Ask::ImagePart {
+                name,
+                format: format_of(*format),
+                x: count_of(*xoffset),
+                y: count_of(*yoffset),
+                width: side_of(*width),
+                height: side_of(*height),
+                pitch: pitch_in(self.tracked(), *format, *width),
+                source: *pixels,
+            }),
+            _ => None,
+        }
+    }
+
+    /// The name of the texture that is bound in the unit at place 0 or 1 (section 3.7.11).
+    #[tactic(auto, unfolding(crate::specs::Event::texture_bound))]
+    pub fn texture_bound(&self, unit: usize) -> u64
+        requires { unit < 2 }
+        ensures { result ≡ texture_bound self.now unit }
+    {
+        texture_named(self.context(), self.settings().bindings[unit])
     }
 
     /// The event of a draw without an error, and none of every other call (sections 2.8 and 3.7.12, own).
@@ -168,7 +233,7 @@ impl Private {
     {
         let settings = self.settings();
         if settings.capabilities.texture_2d[unit] {
-            textures.push(texture_named(self.context(), settings.bindings[unit]));
+            textures.push(self.texture_bound(unit));
         }
     }
 }
@@ -187,7 +252,10 @@ fn plan_without_fault(call: &Call) -> Plan
         | Call::GenBuffers { .. }
         | Call::GenTextures { .. }
         | Call::IsBuffer { .. }
-        | Call::IsTexture { .. } => Plan::Ask,
+        | Call::IsTexture { .. }
+        | Call::TexImage2D { .. }
+        | Call::TexParameteri { .. }
+        | Call::TexSubImage2D { .. } => Plan::Ask,
         Call::Clear { .. } | Call::DrawArrays { .. } | Call::DrawElements { .. } => Plan::Draw,
         Call::ReadPixels { .. } => Plan::Read,
         Call::GetError
@@ -197,6 +265,16 @@ fn plan_without_fault(call: &Call) -> Plan
         | Call::IsEnabled { .. } => Plan::Query,
         _ => Plan::Local,
     }
+}
+
+/// From one row of an image to the next in memory, in bytes, by the number of its format and its width in texels: at
+/// UNPACK_ALIGNMENT (sections 3.6.1 and 3.6.2).
+#[tactic(auto, unfolding(crate::specs::Event::pitch_in))]
+fn pitch_in(tracked: &Tracked, format: u32, width: i32) -> u32
+    ensures { result ≡ pitch_in tracked.now format width }
+{
+    let row = side_of(width) * texel_size(format);
+    pitch_of(count_of(tracked.unpack_alignment), row) as u32
 }
 
 /// What the bind of a name asks for: with 0 nothing (sections 2.9 and 3.7.11).

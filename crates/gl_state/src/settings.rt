@@ -7,8 +7,9 @@ ghost use Rattle.fragment_ops.specs.State.{number_at, AreWithinOne, IsWithinOne}
 ghost use Rattle.gl_tracked.specs.declared.tracked.Tracked.{Tracked};
 ghost use Rattle.gl_tracked.specs.Names.{names_at};
 ghost use Rattle.gl_state.specs.Settings.{clamped_origin, clamped_side, clamped_to_one, clamped_within, first_capabilities, first_settings, place_of_unit, with_capability, without_textures, AreAccepted, AreClamped, IsViewport};
-ghost use Rattle.gl_state.specs.Step.{is_current, is_of_frame, is_of_primitives, is_of_tests, settings_set_by};
+ghost use Rattle.gl_state.specs.Step.{is_current, is_of_environment, is_of_frame, is_of_primitives, is_of_tests, settings_set_by};
 
+use crate::images::colour_from;
 use gl_memory::Memory;
 use gl_tracked::{Tracked, binding_after, count_of, name_at};
 use gl_words::Call;
@@ -106,14 +107,14 @@ pub struct Settings {
     pub clear_depth: i32,
     /// The texture bound to TEXTURE_2D in unit 0 and in unit 1, or 0 for the default one (section 3.7.11).
     pub bindings: [u32; 2],
-    /// The mode and the colour of the environment of unit 0 and of unit 1, the colour 16.16 fixed (section 3.7.12).
+    /// The mode and the colour of the environment of unit 0 and of unit 1, the colour 0 to 65536, 16.16 fixed (section 3.7.12).
     pub environment_mode: [u32; 2],
     pub environment_colour: [[i32; 4]; 2],
 }
 
 impl Settings {
     /// Those of a context at the start, with a frame of these sides in pixels (tables 6.4 to 6.20).
-    #[tactic(auto, unfolding(crate::specs::Settings::first_settings))]
+    #[tactic(auto, unfolding(crate::specs::Settings::first_settings), using(crate::proofs::Clamping::first_environments, crate::proofs::Clamping::first_modes))]
     pub(crate) fn new(width: u32, height: u32) -> Settings
         requires sides { AreSides width height }
         ensures first { result ≡ first_settings width height }
@@ -184,6 +185,9 @@ impl Settings {
                 self.capabilities
                     .set(place_of_unit(tracked.active), *cap, true);
             }
+            Call::TexEnvi { .. } | Call::TexEnvxv { .. } => {
+                self.set_environment(tracked, call, memory);
+            }
             _ => {}
         }
     }
@@ -207,6 +211,24 @@ impl Settings {
             binding_after(name, self.bindings[0]),
             binding_after(name, self.bindings[1]),
         ];
+    }
+
+    /// Sets the mode or the colour of the environment of the active unit (section 3.7.12).
+    #[tactic(auto, unfolding(crate::specs::Step::settings_set_by))]
+    fn set_environment<M: Memory>(&mut self, tracked: &Tracked, call: &Call, memory: &M)
+        requires { is_of_environment call.now ≡ true }
+        ensures set { self.new
+            ≡ settings_set_by tracked.now self.old call.now (M.segments memory.now) }
+        ensures clamped { AreClamped self.old → AreClamped self.new }
+    {
+        let place = place_of_unit(tracked.active);
+        match call {
+            Call::TexEnvi { param, .. } => self.environment_mode[place] = count_of(*param),
+            Call::TexEnvxv { params, .. } => {
+                self.environment_colour[place] = colour_from(memory, *params);
+            }
+            _ => {}
+        }
     }
 
     /// Sets a value that vertices take where no array has one (section 2.7).
@@ -333,8 +355,8 @@ fn clamped_within(low: i32, high: i32, number: i32) -> i32
     }
 }
 
-/// A 16.16 fixed number clamped to 0 to 1 (sections 2.10.1, 4.1.4 and 4.2.3).
-fn clamped_to_one(number: i32) -> i32
+/// A 16.16 fixed number clamped to 0 to 1 (sections 2.10.1, 3.7.12, 4.1.4 and 4.2.3).
+pub(crate) fn clamped_to_one(number: i32) -> i32
     ensures clamped { result ≡ clamped_to_one number }
     ensures within { IsWithinOne result }
 {

@@ -2,8 +2,13 @@ use Rattle.std.proofs.Common.{Option, Some, None, refl, sym, ap, ◌∙◌, true
 use Rattle.gl_objects.specs.declared.event.Event.{Event}
 use Rattle.gl_state.specs.declared.ask.Ask.{Ask}
 use Rattle.gl_state.specs.Event.{asked_or}
+use Rattle.gl_state.specs.Step.{fault_in}
 use Rattle.gl_state.proofs.Naming.{event_by-ask, event_by-draw, event_by-others, gives_content-asked, names-few, names-room}
+use Rattle.gl_state.proofs.Stepping.{fault_of-planned}
 use Rattle.gl_state.proofs.private.Private.event.Goals as goal
+
+pub ask-requires : goal.ask-requires
+ask-requires g c = record { no_fault = fault_of-planned c.args.self.now c.args.call.now c.args.plan c.requires.plan ∙ ap fault_in c.in-Ask.is }
 
 pub returns-in_err-event-in-Some-clause-memory : goal.returns-in_err-event-in-Some-clause-memory
 returns-in_err-event-in-Some-clause-memory g c refused =
