@@ -5,7 +5,7 @@ use Rattle.std.proofs.lemmas.Bool.{cases_lt, true≢false}
 use Rattle.std.proofs.lemmas.List.{get_or_past}
 use Rattle.std.proofs.lemmas.List.Elements.{All-map, All-nil}
 use Rattle.gl_words.specs.declared.call.Call.{Call}
-use Rattle.gl_words.specs.declared.call.Call.TheVariants.{BufferData, BufferSubData, DeleteBuffers, DeleteTextures, DrawArrays, DrawElements, LoadMatrixx, MultMatrixx}
+use Rattle.gl_words.specs.declared.call.Call.TheVariants.{BufferData, BufferSubData, DeleteBuffers, DeleteTextures, DrawArrays, DrawElements, LoadMatrixx, MultMatrixx, TexEnvxv, TexImage2D, TexSubImage2D}
 use Rattle.gl_words.specs.declared.error.GlError.{GlError}
 use Rattle.gl_memory.specs.Piece.{Agree, LiesIn, bytes_from, cut, cut_out}
 use Rattle.gl_memory.specs.Segment.{Segment, byte_at, AreBytes}
@@ -16,7 +16,7 @@ use Rattle.gl_tracked.specs.declared.tracked.Tracked.{Tracked}
 use Rattle.gl_tracked.specs.Fault.{fault_of}
 use Rattle.gl_tracked.specs.Reads.{AgreesOn}
 use Rattle.gl_tracked.specs.Step.{none_on_fault, ranges_of, reads_all, reads_by, reads_of}
-use Rattle.array_capture.proofs.Covering.{pieces_of_bytes-serve, pieces_of_data-serve, pieces_of_draw-serve, pieces_of_elements-serve, pieces_of_matrix-serve, pieces_of_names-serve}
+use Rattle.array_capture.proofs.Covering.{pieces_of_bytes-serve, pieces_of_colour-serve, pieces_of_data-serve, pieces_of_draw-serve, pieces_of_elements-serve, pieces_of_image-serve, pieces_of_matrix-serve, pieces_of_names-serve, pieces_of_subimage-serve}
 use Rattle.batch_pack.specs.Batch.{captured}
 use Rattle.client_shadow.specs.declared.class.Class.TheVariants.{Defer}
 use Rattle.client_shadow.specs.Class.{class_of, captured_for, pieces_of, pieces_without_fault, reads_anywhere}
@@ -34,6 +34,11 @@ agrees_without_fault tracked (DrawArrays mode first count) memory = (pieces_of_d
 agrees_without_fault tracked (DrawElements mode count kind indices) memory = (pieces_of_elements-serve tracked count kind indices memory).agree
 agrees_without_fault tracked (LoadMatrixx matrix) memory = (pieces_of_matrix-serve matrix memory).agree
 agrees_without_fault tracked (MultMatrixx matrix) memory = (pieces_of_matrix-serve matrix memory).agree
+agrees_without_fault tracked (TexEnvxv target pname params) memory = (pieces_of_colour-serve params memory).agree
+agrees_without_fault tracked (TexImage2D target level internalformat width height border format kind pixels) memory =
+    (pieces_of_image-serve tracked format width height pixels memory).agree
+agrees_without_fault tracked (TexSubImage2D target level xoffset yoffset width height format kind pixels) memory =
+    (pieces_of_subimage-serve tracked format width height pixels memory).agree
 agrees_without_fault tracked _ memory = All-nil (λ (range : Piece). (place : ℕ) → LiesIn place range → byte_at memory place ≡ byte_at (cut [] memory) place)
 
 -- where there is an error nothing is read, and nothing captured; where there is none, and not all is read, what is read lies in pieces

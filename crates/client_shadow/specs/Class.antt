@@ -2,12 +2,12 @@
 use Rattle.std.specs.Prelude.{ℕ, Bool, ◌||◌, nat_lt, if◌then◌else◌, List, [], Option, None, Some, is_some, true, false}
 use Rattle.gl_words.specs.Call.{is_answering}
 use Rattle.gl_words.specs.declared.call.Call.{Call}
-use Rattle.gl_words.specs.declared.call.Call.TheVariants.{BufferData, BufferSubData, DeleteBuffers, DeleteTextures, DrawArrays, DrawElements, Finish, LoadMatrixx, MultMatrixx}
+use Rattle.gl_words.specs.declared.call.Call.TheVariants.{BufferData, BufferSubData, DeleteBuffers, DeleteTextures, DrawArrays, DrawElements, Finish, LoadMatrixx, MultMatrixx, TexEnvxv, TexImage2D, TexSubImage2D}
 use Rattle.gl_words.specs.declared.error.GlError.{GlError}
 use Rattle.gl_memory.specs.Segment.{Segment}
 use Rattle.gl_memory.specs.Piece.{cut}
 use Rattle.gl_memory.specs.declared.piece.Piece.{Piece}
-use Rattle.array_capture.specs.Pieces.{pieces_of_bytes, pieces_of_data, pieces_of_draw, pieces_of_elements, pieces_of_matrix, pieces_of_names}
+use Rattle.array_capture.specs.Pieces.{pieces_of_bytes, pieces_of_colour, pieces_of_data, pieces_of_draw, pieces_of_elements, pieces_of_image, pieces_of_matrix, pieces_of_names, pieces_of_subimage}
 use Rattle.client_shadow.specs.Cutting.{Issued}
 use Rattle.batch_pack.specs.Spelling.{Spelled, slots_of}
 use Rattle.client_shadow.specs.declared.class.Class.{Class}
@@ -16,7 +16,7 @@ use Rattle.gl_tracked.specs.declared.tracked.Tracked.{Tracked}
 use Rattle.gl_tracked.specs.Fault.{fault_of}
 use Rattle.gl_tracked.specs.Step.{none_on_fault, number_asked, reads_all}
 
--- the pieces of client memory for a call without an error: those of a draw, and that of a matrix, of bytes or of names, and none for any other call; sections 2.8, 2.9, 2.10.2 and 3.7.11, the cut own
+-- the pieces of client memory for a call without an error: those of a draw, and that of a matrix, of bytes, of names, of an image or of a colour, and none for any other call; sections 2.8, 2.9, 2.10.2, 3.7.1, 3.7.2, 3.7.11 and 3.7.12, the cut own
 unfoldable pub pieces_without_fault : Tracked → Call → List Segment → List Piece
 pieces_without_fault tracked (BufferData target size source usage) memory = pieces_of_data source size memory
 pieces_without_fault tracked (BufferSubData target offset size source) memory = pieces_of_bytes source size memory
@@ -26,6 +26,9 @@ pieces_without_fault tracked (DrawArrays mode first count) memory = pieces_of_dr
 pieces_without_fault tracked (DrawElements mode count kind indices) memory = pieces_of_elements tracked count kind indices memory
 pieces_without_fault tracked (LoadMatrixx matrix) memory = pieces_of_matrix matrix memory
 pieces_without_fault tracked (MultMatrixx matrix) memory = pieces_of_matrix matrix memory
+pieces_without_fault tracked (TexEnvxv target pname params) memory = pieces_of_colour params memory
+pieces_without_fault tracked (TexImage2D target level internalformat width height border format kind pixels) memory = pieces_of_image tracked format width height pixels memory
+pieces_without_fault tracked (TexSubImage2D target level xoffset yoffset width height format kind pixels) memory = pieces_of_subimage tracked format width height pixels memory
 pieces_without_fault tracked _ memory = []
 
 -- the pieces of client memory that are captured for a call: a call with an error reads nothing, so there are none for it; own

@@ -16,8 +16,8 @@ ghost use Rattle.client_shadow.specs.Look.{Captures, HasHeading, asks_in, class_
 use crate::class::Class;
 use crate::look::{Becomes, Look};
 use array_capture::{
-    pieces_of_bytes, pieces_of_data, pieces_of_draw, pieces_of_elements, pieces_of_matrix,
-    pieces_of_names,
+    pieces_of_bytes, pieces_of_colour, pieces_of_data, pieces_of_draw, pieces_of_elements,
+    pieces_of_image, pieces_of_matrix, pieces_of_names, pieces_of_subimage,
 };
 use batch_pack::heading_of;
 use gl_memory::{ClientMemory, Pieces};
@@ -185,8 +185,8 @@ fn find_pieces(
     }
 }
 
-/// Puts the pieces of client memory for a call without an error into an empty list (sections 2.8, 2.9, 2.10.2 and 3.7.11).
-/// Only draws, matrices, uploads and deletions touch it.
+/// Puts the pieces of client memory for a call without an error into an empty list (sections 2.8, 2.9, 2.10.2, 3.7.1, 3.7.2,
+/// 3.7.11 and 3.7.12). Only draws, matrices, uploads, images, colours and deletions touch it.
 #[tactic(auto, unfolding(crate::specs::Class::pieces_without_fault))]
 fn find_pieces_without_fault(
     tracked: &Tracked,
@@ -221,6 +221,27 @@ fn find_pieces_without_fault(
         }
         Call::LoadMatrixx { matrix } | Call::MultMatrixx { matrix } => {
             *pieces = pieces_of_matrix(*matrix, memory);
+        }
+        Call::TexEnvxv { params, .. } => {
+            *pieces = pieces_of_colour(*params, memory);
+        }
+        Call::TexImage2D {
+            width,
+            height,
+            format,
+            pixels,
+            ..
+        } => {
+            *pieces = pieces_of_image(tracked, *format, *width, *height, *pixels, memory);
+        }
+        Call::TexSubImage2D {
+            width,
+            height,
+            format,
+            pixels,
+            ..
+        } => {
+            *pieces = pieces_of_subimage(tracked, *format, *width, *height, *pixels, memory);
         }
         _ => {}
     }

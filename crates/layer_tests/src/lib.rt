@@ -1,8 +1,6 @@
-//! Tests of batches, of the shadow and of rails. Each file has those of one crate.
+//! Tests of the shadow and of rails. Each file has those of one crate.
 #![tactic(auto)]
 
-#[cfg(test)]
-mod pack;
 #[cfg(test)]
 mod rail;
 #[cfg(test)]

@@ -102,12 +102,14 @@ fn a_shadow_answers_as_the_driver_does(rt: HostRuntime) -> Result<(), Fail> {
     Ok(())
 }
 
-// Another program counts 12 of these calls as put off, 12 that waited and 4 that were answered at once.
+// Another program counts 17 of these calls as put off, 12 that waited and 4 that were answered at once.
 #[test]
 fn each_kind_of_call_has_its_class(rt: HostRuntime) -> Result<(), Fail> {
     let memory = ClientMemory::new(rt.alloc(), 64)?;
     let shadow = Shadow::new();
     let pixels = [0, 0, 1, 1, 0x1908, 0x1401, 0];
+    let image = [0x0DE1, 0, 0x1907, 2, 2, 0, 0x1907, 0x1401, 8];
+    let part = [0x0DE1, 0, 0, 0, 2, 2, 0x1907, 0x1401, 0];
     let rows = [
         ("MatrixMode", [0x1703].as_slice(), Class::Defer),
         ("GetIntegerv", [0x0BA0, 0].as_slice(), Class::Answer),
@@ -141,6 +143,15 @@ fn each_kind_of_call_has_its_class(rt: HostRuntime) -> Result<(), Fail> {
         ("DeleteBuffers", [1, 0].as_slice(), Class::Defer),
         ("DeleteTextures", [1, 0].as_slice(), Class::Defer),
         ("DrawElements", [4, 3, 0x1401, 0].as_slice(), Class::Defer),
+        ("TexEnvi", [0x2300, 0x2200, 0x1E01].as_slice(), Class::Defer),
+        ("TexEnvxv", [0x2300, 0x2201, 0].as_slice(), Class::Defer),
+        ("TexImage2D", image.as_slice(), Class::Defer),
+        (
+            "TexParameteri",
+            [0x0DE1, 0x2802, 0x2901].as_slice(),
+            Class::Defer,
+        ),
+        ("TexSubImage2D", part.as_slice(), Class::Defer),
     ];
     for (name, numbers, class) in rows {
         let Some(call) = call_named(name, numbers) else {
@@ -155,11 +166,14 @@ fn each_kind_of_call_has_its_class(rt: HostRuntime) -> Result<(), Fail> {
 }
 
 // A spelling has a header and a slot for each argument, and two slots and one for each eight bytes of a piece. Each vertex
-// here has 16 bytes, and memory ends within the fifth. Indices are 0.
+// here has 16 bytes, and memory ends within the fifth. Indices are 0. The images have 14 and 64 bytes.
 #[test]
 fn a_call_longer_than_a_batch_waits(rt: HostRuntime) -> Result<(), Fail> {
     let memory = ClientMemory::new(rt.alloc(), 68)?;
     let mut shadow = Shadow::new();
+    let image = [0x0DE1, 0, 0x1907, 2, 2, 0, 0x1907, 0x1401, 4];
+    let zeros = [0x0DE1, 0, 0x1907, 2, 2, 0, 0x1907, 0x1401, 0];
+    let part = [0x0DE1, 0, 0, 0, 4, 4, 0x1908, 0x1401, 4];
     let rows = [
         ("Viewport", [0, 0, 1, 1].as_slice(), 5),
         ("DrawArrays", [4, 0, 3].as_slice(), 4),
@@ -180,6 +194,10 @@ fn a_call_longer_than_a_batch_waits(rt: HostRuntime) -> Result<(), Fail> {
         ("BufferData", [0x8892, 16, 4, 0x88E4].as_slice(), 9),
         ("BufferData", [0x8892, 16, 0, 0x88E4].as_slice(), 5),
         ("BufferSubData", [0x8892, 0, 16, 60].as_slice(), 8),
+        ("TexEnvxv", [0x2300, 0x2201, 60].as_slice(), 7),
+        ("TexImage2D", image.as_slice(), 14),
+        ("TexImage2D", zeros.as_slice(), 10),
+        ("TexSubImage2D", part.as_slice(), 20),
     ];
     for (name, numbers, slots) in rows {
         let Some(call) = call_named(name, numbers) else {
@@ -316,6 +334,48 @@ fn what_reads_memory_is_put_off_with_its_pieces(rt: HostRuntime) -> Result<(), F
         (
             "DrawElements",
             [4, 3, 0x1401, 150].as_slice(),
+            [].as_slice(),
+        ),
+        (
+            "TexEnvxv",
+            [0x2300, 0x2201, 190].as_slice(),
+            [(190, 10)].as_slice(),
+        ),
+        ("TexEnvxv", [0x2300, 0x2200, 100].as_slice(), [].as_slice()),
+        (
+            "TexImage2D",
+            [0x0DE1, 0, 0x1907, 2, 2, 0, 0x1907, 0x1401, 32].as_slice(),
+            [(32, 14)].as_slice(),
+        ),
+        (
+            "TexImage2D",
+            [0x0DE1, 0, 0x1907, 2, 2, 0, 0x1907, 0x1401, 0].as_slice(),
+            [].as_slice(),
+        ),
+        (
+            "TexImage2D",
+            [0x0DE1, 0, 0x1909, 3, 4, 0, 0x1909, 0x1401, 20].as_slice(),
+            [].as_slice(),
+        ),
+        ("PixelStorei", [0x0CF5, 1].as_slice(), [].as_slice()),
+        (
+            "TexImage2D",
+            [0x0DE1, 0, 0x1907, 2, 2, 0, 0x1907, 0x1401, 32].as_slice(),
+            [(32, 12)].as_slice(),
+        ),
+        (
+            "TexSubImage2D",
+            [0x0DE1, 0, 0, 0, 3, 3, 0x1907, 0x1401, 0].as_slice(),
+            [(0, 27)].as_slice(),
+        ),
+        (
+            "TexSubImage2D",
+            [0x0DE1, 0, 0, 0, 0, 9, 0x1908, 0x1401, 10].as_slice(),
+            [].as_slice(),
+        ),
+        (
+            "TexParameteri",
+            [0x0DE1, 0x2802, 0x2901].as_slice(),
             [].as_slice(),
         ),
     ];

@@ -31,8 +31,33 @@ fn elements(count: i32, kind: u32, indices: u32) -> Call {
     }
 }
 
+/// TexEnvxv of this name, of a colour at this place.
+fn colour(pname: u32, params: u32) -> Call {
+    Call::TexEnvxv {
+        target: 0x2300,
+        pname,
+        params,
+    }
+}
+
+/// TexSubImage2D of RGB with these sides, of texels at this place.
+fn texels(width: i32, height: i32, pixels: u32) -> Call {
+    Call::TexSubImage2D {
+        target: 0x0DE1,
+        level: 0,
+        xoffset: 0,
+        yoffset: 0,
+        width,
+        height,
+        format: 0x1907,
+        kind: 0x1401,
+        pixels,
+    }
+}
+
 // Worked by hand: the place of a byte is one below its number, vertices have two bytes from the place 4 on, and what isn't
-// captured is 0. By the indices 1 and 2 the bytes from 7 on are read. The last four have an error.
+// captured is 0. By the indices 1 and 2 the bytes from 7 on are read. A texel has three bytes, and a row begins every four. The
+// last six have an error.
 #[test]
 fn a_driver_is_handed_the_bytes_that_a_call_was_issued_on(rt: HostRuntime) -> Result<(), Fail> {
     let rows = [
@@ -73,11 +98,21 @@ fn a_driver_is_handed_the_bytes_that_a_call_was_issued_on(rt: HostRuntime) -> Re
             Call::DeleteBuffers { n: 1, names: 14 },
             [0, 0, 0, 0, 0, 0, 0, 0, 0, 0, 0, 0, 0, 0, 15, 16],
         ),
+        (
+            colour(0x2201, 8),
+            [0, 0, 0, 0, 0, 0, 0, 0, 9, 10, 11, 12, 13, 14, 15, 16],
+        ),
+        (
+            texels(1, 2, 3),
+            [0, 0, 0, 4, 5, 6, 7, 8, 9, 10, 0, 0, 0, 0, 0, 0],
+        ),
         (draw(4, 0, 0), [0; 16]),
         (draw(4, -1, 3), [0; 16]),
         (draw(7, 0, 3), [0; 16]),
         (elements(-1, 0x1401, 0), [0; 16]),
         (Call::DeleteBuffers { n: 257, names: 0 }, [0; 16]),
+        (colour(0x2200, 8), [0; 16]),
+        (texels(-1, 2, 3), [0; 16]),
     ];
     for (call, seen) in rows {
         let mut maker = InlineMaker::new();
