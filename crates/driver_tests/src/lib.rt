@@ -1,10 +1,8 @@
-//! Tests of private state and of the renderer.
+//! Tests of the renderer, and of a book of objects.
 #![tactic(auto)]
 
 #[cfg(test)]
 mod book;
-#[cfg(test)]
-mod events;
 #[cfg(test)]
 mod soft;
 #[cfg(test)]
@@ -12,4 +10,4 @@ mod soft_draw;
 #[cfg(test)]
 mod soft_read;
 #[cfg(test)]
-mod state;
+mod soft_textured;

@@ -158,6 +158,11 @@ Scalex 65536 65536 65536 : -1
 Scissor 0 0 2 2 : -1
 ShadeModel 7424 : -1
 TexCoordPointer 2 5122 0 0 : -1
+TexEnvi 8960 8704 7681 : -1
+TexEnvxv 8960 8705 0 : -1
+TexImage2D 3553 0 6408 1 1 0 6408 5121 0 : -1
+TexParameteri 3553 10241 9728 : -1
+TexSubImage2D 3553 0 0 0 1 1 6408 5121 0 : -1
 Translatex 1 2 3 : -1
 VertexPointer 3 5132 0 0 : -1
 Viewport 0 0 2 2 : -1
@@ -325,6 +330,9 @@ Scalex 65536 65536 65536
 Scissor 0 0 2 2
 ShadeModel 7424
 TexCoordPointer 2 5122 0 0
+TexEnvi 8960 8704 7681
+TexEnvxv 8960 8705 0
+TexParameteri 3553 10241 9728
 Translatex 1 2 3
 VertexPointer 3 5132 0 0
 Viewport 0 0 2 2

@@ -9,10 +9,10 @@ use std::test::Fail;
 use std::thread::Threads;
 
 /// Red, green and blue of 16 pixels, the rows from the top.
-type Picture = [u32; 16];
+pub(crate) type Picture = [u32; 16];
 
 /// Carries out calls, a line each, on a new context of 4 by 4 pixels, and gives its frame.
-fn frame_after<T: Threads + Sync>(
+pub(crate) fn frame_after<T: Threads + Sync>(
     rt: &T,
     alloc: Global,
     calls: &str,
@@ -29,7 +29,7 @@ fn frame_after<T: Threads + Sync>(
 }
 
 /// Whether a frame has a picture.
-fn shows(frame: &Frame, picture: &Picture) -> bool {
+pub(crate) fn shows(frame: &Frame, picture: &Picture) -> bool {
     for row in 0..4_usize {
         for column in 0..4_usize {
             let [red, green, blue, _] = frame.pixel(column as i32, 3 - row as i32);

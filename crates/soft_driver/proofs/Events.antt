@@ -4,11 +4,12 @@ use Rattle.std.specs.Prelude.{IfSome, int_lt, not, pos, ◌&&◌}
 use Rattle.std.proofs.lemmas.Bool.{true≢false}
 use Rattle.std.proofs.lemmas.Option.{none-some}
 use Rattle.gl_words.specs.declared.call.Call.{Call}
-use Rattle.gl_words.specs.declared.call.Call.TheVariants.{BindBuffer, BindTexture, BufferData, BufferSubData, DeleteBuffers, DeleteTextures, DrawArrays, DrawElements, GenBuffers, GenTextures, IsBuffer, IsTexture}
+use Rattle.gl_words.specs.declared.call.Call.TheVariants.{BindBuffer, BindTexture, BufferData, BufferSubData, DeleteBuffers, DeleteTextures, DrawArrays, DrawElements, GenBuffers, GenTextures, IsBuffer, IsTexture, TexImage2D, TexParameteri, TexSubImage2D}
 use Rattle.gl_words.specs.declared.error.GlError.{GlError}
 use Rattle.gl_memory.specs.Segment.{Segment}
 use Rattle.gl_objects.specs.declared.event.Event.{Event}
-use Rattle.gl_objects.specs.Event.{is_asking}
+use Rattle.gl_objects.specs.declared.event.Event.TheVariants as ev
+use Rattle.gl_objects.specs.Event.{wants_memory}
 use Rattle.gl_objects.specs.declared.kind.Kind.{Kind}
 use Rattle.gl_objects.specs.declared.kind.Kind.TheVariants as kinds
 use Rattle.gl_objects.specs.Step.{names_of}
@@ -18,7 +19,8 @@ use Rattle.gl_tracked.specs.Step.{number_asked}
 use Rattle.gl_state.specs.declared.plan.Plan.{Plan}
 use Rattle.gl_state.specs.declared.plan.Plan.TheVariants.{Ask as Asks}
 use Rattle.gl_state.specs.declared.ask.Ask.TheVariants as asks
-use Rattle.gl_state.specs.Event.{ask_of, asked_or, event_asked, event_by, no_reply, use_by, use_of, use_unless_none, used_buffers, used_textures}
+use Rattle.gl_state.specs.Event.{ask_of, asked_or, event_asked, event_by, no_reply, texture_bound, use_by, use_of, use_unless_none, used_buffers, used_textures}
+use Rattle.gl_state.specs.Gets.{active_unit}
 use Rattle.gl_state.specs.Private.{PrivateView}
 use Rattle.gl_state.specs.Step.{fault_in, plan_by, plan_found, plan_of, room_of}
 use Rattle.gl_state.proofs.Naming.{names-few}
@@ -65,6 +67,9 @@ module _ (objects : ObjectsView) where
     unasked_by None (GenTextures n names) other = absurd (other refl)
     unasked_by None (IsBuffer buffer) other = absurd (other refl)
     unasked_by None (IsTexture texture) other = absurd (other refl)
+    unasked_by None (TexImage2D target level internalformat width height border format kind pixels) other = absurd (other refl)
+    unasked_by None (TexParameteri target pname param) other = absurd (other refl)
+    unasked_by None (TexSubImage2D target level xoffset yoffset width height format kind pixels) other = absurd (other refl)
     unasked_by None _ other = nothing
 
     unasked_found : (asked : Option ℤ) (fault : Option GlError) (call : Call) → number_asked p.tracked call ≡ asked → plan_found asked fault call ≢ Asks → ChangesNothing objects (event_by fault p call memory)
@@ -88,34 +93,41 @@ module _ (none : Bool) (kind : Kind) (name : ℕ) (memory : List Segment) where
   abbrev Questioned : Option Event
   Questioned = asked_or (cond none None (Some (asks.Is kind name))) None memory
 
--- an event is a question
-abbrev asks_only : Option Event → Bool
-asks_only None = false
-asks_only (Some event) = is_asking event
+-- an event may want memory
+abbrev may_want : Option Event → Bool
+may_want None = false
+may_want (Some event) = wants_memory event
 
 bind_asks : (zero : Bool) (kind : Kind) (name : ℕ) (memory : List Segment) (event : Event) → Bound zero kind name memory ≡ Some event → not zero ≡ true
 bind_asks true kind name memory event is = absurd (none-some event is)
 bind_asks false kind name memory event is = refl
 
-is_asks : (zero : Bool) (kind : Kind) (name : ℕ) (memory : List Segment) (event : Event) → Questioned zero kind name memory ≡ Some event → is_asking event ≡ true
+is_wants_none : (zero : Bool) (kind : Kind) (name : ℕ) (memory : List Segment) (event : Event) → Questioned zero kind name memory ≡ Some event → wants_memory event ≡ false
 unfolding event_asked
-is_asks true kind name memory event is = absurd (none-some event is)
-is_asks false kind name memory event is = sym (ap asks_only is)
+is_wants_none true kind name memory event is = absurd (none-some event is)
+is_wants_none false kind name memory event is = sym (ap may_want is)
 
--- a call whose event isn't a question may ask for memory
-pub event_asks : (p : PrivateView) (call : Call) (memory : List Segment) (event : Event) → plan_by None call ≡ Asks → event_by None p call memory ≡ Some event → is_asking event ≡ false → asks_memory None call ≡ true
-unfolding ask_of use_of
-event_asks p (BindBuffer target buffer) memory event planned is other = bind_asks (eqb buffer 0) kinds.Buffer buffer memory event is
-event_asks p (BindTexture target texture) memory event planned is other = bind_asks (eqb texture 0) kinds.Texture texture memory event is
-event_asks p (BufferData target size source usage) memory event planned is other = refl
-event_asks p (BufferSubData target offset size source) memory event planned is other = refl
-event_asks p (DeleteBuffers n names) memory event planned is other = refl
-event_asks p (DeleteTextures n names) memory event planned is other = refl
-event_asks p (GenBuffers n names) memory event planned is other = refl
-event_asks p (GenTextures n names) memory event planned is other = refl
-event_asks p (IsBuffer buffer) memory event planned is other = absurd (true≢false (sym (is_asks (eqb buffer 0) kinds.Buffer buffer memory event is) ∙ other))
-event_asks p (IsTexture texture) memory event planned is other = absurd (true≢false (sym (is_asks (eqb texture 0) kinds.Texture texture memory event is) ∙ other))
-event_asks p _ memory event planned is other = absurd (cc)
+parameter_wants_none : (name pname : ℕ) (value : ℤ) (event : Event) → Some (ev.Parameter name pname value) ≡ Some event → wants_memory event ≡ false
+parameter_wants_none name pname value event is = sym (ap may_want is)
+
+-- a call whose event may want memory asks for some
+pub event_asks : (p : PrivateView) (call : Call) (memory : List Segment) (event : Event) → plan_by None call ≡ Asks → event_by None p call memory ≡ Some event → wants_memory event ≡ true → asks_memory None call ≡ true
+unfolding ask_of use_of event_asked
+event_asks p (BindBuffer target buffer) memory event planned is wants = bind_asks (eqb buffer 0) kinds.Buffer buffer memory event is
+event_asks p (BindTexture target texture) memory event planned is wants = bind_asks (eqb texture 0) kinds.Texture texture memory event is
+event_asks p (BufferData target size source usage) memory event planned is wants = refl
+event_asks p (BufferSubData target offset size source) memory event planned is wants = refl
+event_asks p (DeleteBuffers n names) memory event planned is wants = refl
+event_asks p (DeleteTextures n names) memory event planned is wants = refl
+event_asks p (GenBuffers n names) memory event planned is wants = refl
+event_asks p (GenTextures n names) memory event planned is wants = refl
+event_asks p (IsBuffer buffer) memory event planned is wants = absurd (true≢false (sym wants ∙ is_wants_none (eqb buffer 0) kinds.Buffer buffer memory event is))
+event_asks p (IsTexture texture) memory event planned is wants = absurd (true≢false (sym wants ∙ is_wants_none (eqb texture 0) kinds.Texture texture memory event is))
+event_asks p (TexImage2D target level internalformat width height border format kind pixels) memory event planned is wants = refl
+event_asks p (TexParameteri target pname param) memory event planned is wants =
+    absurd (true≢false (sym wants ∙ parameter_wants_none (texture_bound p (active_unit p)) pname param event is))
+event_asks p (TexSubImage2D target level xoffset yoffset width height format kind pixels) memory event planned is wants = refl
+event_asks p _ memory event planned is wants = absurd (cc)
 
 -- no more names come back than there is room for in the reply
 given_few : (objects : ObjectsView) (plan : Plan) (call : Call) (event : Option Event) → IfSome event (λ e. length (names_of objects e) ≤ room_of plan call)

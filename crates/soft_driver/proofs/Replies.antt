@@ -5,7 +5,7 @@ use Rattle.std.proofs.lemmas.Bool.{and_parts, true≢false}
 use Rattle.std.proofs.lemmas.Bool.Decides.{nat_tests}
 use Rattle.std.proofs.lemmas.Int.{ints}
 use Rattle.gl_words.specs.declared.call.Call.{Call}
-use Rattle.gl_words.specs.declared.call.Call.TheVariants.{BindBuffer, BindTexture, BufferData, BufferSubData, DeleteBuffers, DeleteTextures, GenBuffers, GenTextures, ReadPixels}
+use Rattle.gl_words.specs.declared.call.Call.TheVariants.{BindBuffer, BindTexture, BufferData, BufferSubData, DeleteBuffers, DeleteTextures, GenBuffers, GenTextures, ReadPixels, TexImage2D, TexSubImage2D}
 use Rattle.gl_words.specs.declared.error.GlError.{GlError}
 use Rattle.gl_tracked.specs.Fault.{fault_of, is_extent, is_readable}
 use Rattle.gl_tracked.specs.Step.{number_asked}
@@ -38,6 +38,8 @@ list_asks (DeleteTextures n names) h = refl
 list_asks (GenBuffers n names) h = refl
 list_asks (GenTextures n names) h = refl
 list_asks (ReadPixels x y width height format kind pixels) h = refl
+list_asks (TexImage2D target level internalformat width height border format kind pixels) h = refl
+list_asks (TexSubImage2D target level xoffset yoffset width height format kind pixels) h = refl
 list_asks call h = above_none (list_length call) h
 
 -- a call that has room for numbers may ask for memory
@@ -52,6 +54,8 @@ content_asks (BufferData target size source usage) h = refl
 content_asks (BufferSubData target offset size source) h = refl
 content_asks (DeleteBuffers n names) h = refl
 content_asks (DeleteTextures n names) h = refl
+content_asks (TexImage2D target level internalformat width height border format kind pixels) h = refl
+content_asks (TexSubImage2D target level xoffset yoffset width height format kind pixels) h = refl
 content_asks _ h = absurd (true≢false (sym h))
 
 reads_by : (call : Call) → plan_by None call ≡ Read → IsOther call → ⊥

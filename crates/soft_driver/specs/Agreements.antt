@@ -116,26 +116,26 @@ module _ (m n : List Segment) where
 
     module _ (state : PrivateView) (frame : FrameView) where
       -- the arrays that a draw takes are those that are set
-      draws_set : TakesArrays state.tracked (drawing_of state).stage
+      draws_set : TakesArrays state.tracked (drawing_of state objects).stage
       unfolding drawing_of stage_of texturing_of
       draws_set = record { vertex = refl; colour = refl; first_unit = refl; second_unit = refl }
 
       -- the frame after so many vertices of a mode were drawn that take elements at these places, beside a client memory
       abbrev Drawn : List Segment → ℕ → (ℕ → ℕ) → ℕ → FrameView
-      Drawn memory mode at count = frame_changed (cell_after_draw (drawing_of state) (memories_of objects memory) mode at count) frame
+      Drawn memory mode at count = frame_changed (cell_after_draw (drawing_of state objects) (memories_of objects memory) mode at count) frame
 
       drawn_same : (mode : ℕ) (at other : ℕ → ℕ) (count : ℕ) → ((number : ℕ) → number < count → at number ≡ other number)
           → Agree m n (ranges_at state.tracked (map at (range_with_len 0 count))) → Drawn m mode at count ≡ Drawn n mode other count
       unfolding memories_of
       drawn_same mode at other count same agree =
-          frame_after_draw-reads m n (λ name. memory_of (store_in objects.buffers name)) state.tracked (drawing_of state) frame mode at other count draws_set same agree
+          frame_after_draw-reads m n (λ name. memory_of (store_in objects.buffers name)) state.tracked (drawing_of state objects) frame mode at other count draws_set same agree
 
       none_drawn : (mode : ℕ) (at other : ℕ → ℕ) (count : ℕ) → state.tracked.vertex.enabled ≡ false → Drawn m mode at count ≡ Drawn n mode other count
       unfolding cell_after_draw
       none_drawn mode at other count off =
           let on = ap (λ (array : ArrayState). array.enabled) draws_set.vertex ∙ off in
-          frame_changed-alike (cell_after_draw (drawing_of state) (memories_of objects m) mode at count) (cell_after_draw (drawing_of state) (memories_of objects n) mode other count) frame
-          (λ place old. disabled (drawing_of state).stage.vertex.enabled _ _ old on)
+          frame_changed-alike (cell_after_draw (drawing_of state objects) (memories_of objects m) mode at count) (cell_after_draw (drawing_of state objects) (memories_of objects n) mode other count) frame
+          (λ place old. disabled (drawing_of state objects).stage.vertex.enabled _ _ old on)
 
       places_in_order : (first count : ℕ) → nat_le count 65536 ≡ true → cond (nat_le count 65536) (range_with_len first count) [] ≡ map (λ number. first + number) (range_with_len 0 count)
       places_in_order first count few =

@@ -1,7 +1,7 @@
 -- The own state of a context, and what a call does to it beside the objects that contexts share. What an event does to these stands in gl_objects; no batch, slot, class or front stands here.
 use Rattle.std.specs.Prelude.{◌≡◌, ℕ, ℤ, pos, negsuc, Bool, true, false, not, ◌==◌, nat_lt, bit_and, List, Option, Some, None}
 use Rattle.gl_words.specs.declared.call.Call.{Call}
-use Rattle.gl_words.specs.declared.call.Call.TheVariants.{BindBuffer, BindTexture, BufferData, BufferSubData, Clear, DeleteBuffers, DeleteTextures, DrawArrays, DrawElements, GenBuffers, GenTextures, ReadPixels}
+use Rattle.gl_words.specs.declared.call.Call.TheVariants.{BindBuffer, BindTexture, BufferData, BufferSubData, Clear, DeleteBuffers, DeleteTextures, DrawArrays, DrawElements, GenBuffers, GenTextures, ReadPixels, TexImage2D, TexSubImage2D}
 use Rattle.gl_words.specs.declared.error.GlError.{GlError}
 use Rattle.gl_memory.specs.ClientMemory.{memory_of}
 use Rattle.gl_memory.specs.Segment.{Segment}
@@ -56,17 +56,17 @@ number_of (negsuc below) = 0
 unfoldable pub memories_of : ObjectsView → List Segment → ℕ → List Segment
 memories_of objects memory = memories_with memory (λ name. memory_of (store_in objects.buffers name))
 
--- the frame after a call with this error, or none, on a memory and objects: Clear clears what its mask has a bit of, DrawArrays draws the elements from the first on, DrawElements those that its indices name, in the buffer that is bound for them or in client memory, and no other call draws; sections 2.8, 2.9 and 4.2.3
+-- the frame after a call with this error, or none, on a memory and objects: Clear clears what its mask has a bit of, DrawArrays draws the elements from the first on, DrawElements those that its indices name, in the buffer that is bound for them or in client memory, by the textures that are objects, and no other call draws; sections 2.8, 2.9, 3.7.14 and 4.2.3
 abbrev pub frame_after : Option GlError → PrivateView → FrameView → ObjectsView → Call → List Segment → FrameView
 frame_after (Some error) state frame objects call memory = frame
 frame_after None state frame objects (Clear mask) memory =
     frame_changed (λ place. cell_after_clear place (fragment_state_of state.settings) (clears_colour mask) (clears_depth mask)) frame
 frame_after None state frame objects (DrawArrays mode first count) memory =
     let memories = memories_of objects memory in
-    frame_changed (cell_after_draw (drawing_of state) memories mode (place_in (From (number_of first)) memories) (number_of count)) frame
+    frame_changed (cell_after_draw (drawing_of state objects) memories mode (place_in (From (number_of first)) memories) (number_of count)) frame
 frame_after None state frame objects (DrawElements mode count kind indices) memory =
     let memories = memories_of objects memory in
-    frame_changed (cell_after_draw (drawing_of state) memories mode (place_in (Indexed state.tracked.element_buffer kind indices) memories) (number_of count)) frame
+    frame_changed (cell_after_draw (drawing_of state objects) memories mode (place_in (Indexed state.tracked.element_buffer kind indices) memories) (number_of count)) frame
 frame_after None state frame objects _ memory = frame
 
 -- what a call replies with this error, or none, its event having given this back: ReadPixels the bytes of its pixels, all others what the private state shows; sections 2.5, 4.3.1 and 6.1
@@ -109,7 +109,7 @@ event_of own call memory = event_by (fault_of own.state.tracked call) own.state 
 unfoldable pub own_step : Own → Call → List Segment → ObjectsView → Stepped
 own_step own call memory objects = own_step_by (fault_of own.state.tracked call) own call memory objects
 
--- a call with this error, or none, may ask for memory: for a list that it replies, and for an event with bytes or names, or that makes an object or gives names; own
+-- a call with this error, or none, may ask for memory: for a list that it replies, and for an event with bytes, an image or names, or that makes an object or gives names; own
 abbrev pub asks_memory : Option GlError → Call → Bool
 asks_memory (Some error) call = false
 asks_memory None (BindBuffer target buffer) = not (buffer == 0)
@@ -121,4 +121,6 @@ asks_memory None (DeleteTextures n names) = true
 asks_memory None (GenBuffers n names) = true
 asks_memory None (GenTextures n names) = true
 asks_memory None (ReadPixels x y width height format kind pixels) = true
+asks_memory None (TexImage2D target level internalformat width height border format kind pixels) = true
+asks_memory None (TexSubImage2D target level xoffset yoffset width height format kind pixels) = true
 asks_memory None call = nat_lt 0 (list_length call)

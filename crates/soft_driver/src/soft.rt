@@ -1,10 +1,10 @@
 //! The driver that carries calls out by itself, in memory. It packs nothing and waits for nobody.
 
-ghost use Rattle.std.specs.Prelude.{◌≡◌, ◌≢◌, ◌+◌, ◌^◌, ◌<◌, ◌≤◌, ◌≤ℤ◌, pos, ℕ, true, None, IfErr, IfOk, IsErr, IsOk, OnErr, OnOk};
+ghost use Rattle.std.specs.Prelude.{◌≡◌, ◌≢◌, ◌+◌, ◌^◌, ◌<◌, ◌≤◌, ◌≤ℤ◌, pos, ℕ, true, false, None, IfErr, IfOk, IsErr, IsOk, OnErr, OnOk};
 ghost use Rattle.std.specs.Thread.{IsSync};
 ghost use Rattle.gl_tracked.specs.Fault.{fault_of};
 ghost use Rattle.driver_trait.specs.Reply.{replied, Bytes};
-ghost use Rattle.gl_objects.specs.Event.{is_asking, IsEvent};
+ghost use Rattle.gl_objects.specs.Event.{wants_memory, IsEvent};
 ghost use Rattle.gl_objects.specs.Step.{reply_of, step};
 ghost use Rattle.gl_tracked.specs.Tracked.{IsSound};
 ghost use Rattle.triangle_draw.specs.Draw.{cell_after_draw};
@@ -214,7 +214,7 @@ impl Soft {
     }
 
     /// Has the event of a call that asks objects for something applied to them, if it has one, and tells what they gave back. After
-    /// NoMemory the objects are as they were (sections 2.9, 3.7.11 and 6.1).
+    /// NoMemory the objects are as they were (sections 2.9, 3.7.1, 3.7.2, 3.7.4, 3.7.11 and 6.1).
     fn apply<M: Memory>(&mut self, call: &Call, memory: &M) -> Result<EventReply, NoMemory>
         requires asks { plan_of self.old.own.state call.now ≡ Plan.Ask }
         ensures back { IfOk result (λ back. back
@@ -317,15 +317,15 @@ impl WaitDriver for Soft {
     }
 }
 
-/// Has an event applied to objects, and tells what they gave back. After NoMemory they are as they were.
+/// Has an event applied to objects, which take its bytes, and tells what they gave back. After NoMemory they are as they were.
 fn applied(objects: &mut Objects, event: Event) -> Result<EventReply, NoMemory>
     requires event { IsEvent event }
     ensures reply { IfOk result (λ reply. reply ≡ reply_of objects.old event) }
     ensures ok { OnOk result (objects.new ≡ step objects.old event) }
     ensures err { OnErr result (objects.new ≡ objects.old) }
-    ensures asks { is_asking event ≡ true → IsOk result }
+    ensures asks { wants_memory event ≡ false → IsOk result }
 {
-    objects.apply(&event)
+    objects.take(event)
 }
 
 /// A number that isn't below 0, and 0 for all others; no side that is read and no element that is drawn is below 0.
@@ -429,9 +429,10 @@ fn draw_elements<M: Memory>(
     requires elements { AreElements elements }
     requires few { count ≤ℤ pos 65536 }
     ensures { let each = memories_of memories.now.objects.now (M.segments memories.now.memory.now) in
-        frame.new ≡ frame_changed (cell_after_draw (drawing_of state.now) each mode
+        let drawing = drawing_of state.now memories.now.objects.now in
+        frame.new ≡ frame_changed (cell_after_draw drawing each mode
         (place_in elements each) (number_of count)) frame.old }
 {
-    let drawing = drawing_of(state);
+    let drawing = drawing_of(state, memories.objects);
     draw_triangles(frame, &drawing, memories, mode, elements, number(count));
 }

@@ -4,7 +4,7 @@ use Rattle.std.proofs.lemmas.Result.{IfOk-weaker, on_ok_weaker}
 use Rattle.gl_memory.specs.Segment.{Segment}
 use Rattle.gl_objects.specs.declared.event.Event.{Event}
 use Rattle.gl_objects.specs.declared.reply.EventReply.{EventReply}
-use Rattle.gl_objects.specs.Event.{is_asking}
+use Rattle.gl_objects.specs.Event.{wants_memory}
 use Rattle.gl_objects.specs.Step.{reply_of}
 use Rattle.gl_objects.specs.View.{ObjectsView}
 use Rattle.gl_state.specs.declared.plan.Plan.TheVariants.{Ask as Asks}
@@ -22,11 +22,11 @@ use Rattle.soft_driver.proofs.soft.Soft.apply.Goals as goal
 made : (st : SoftView) (call : Call) (memory : List Segment) (event : Option Event) → plan_of st.own.state call ≡ Asks → event ≡ event_by None st.own.state call memory → event ≡ event_of st.own call memory
 made st call memory event asks is = is ∙ sym (event_of-planned st call memory None (fault_of-planned st.own.state call Asks (sym asks)))
 
--- a refusal isn't that of a question
-refused : {T E : Type 0} (result : Result T E) (asks : Bool) → (asks ≡ true → IsOk result) → IsErr result → asks ≡ false
-refused (Ok value) asks never failed = absurd (cc)
-refused (Err refusal) true never failed = absurd (cc (never refl))
-refused (Err refusal) false never failed = refl
+-- only an event that may want memory is refused
+refused : {T E : Type 0} (result : Result T E) (wants : Bool) → (wants ≡ false → IsOk result) → IsErr result → wants ≡ true
+refused (Ok value) wants never failed = absurd (cc)
+refused (Err refusal) true never failed = refl
+refused (Err refusal) false never failed = absurd (cc (never refl))
 
 pub returns-in-Some-clause-back : goal.returns-in-Some-clause-back
 returns-in-Some-clause-back g c =
@@ -62,7 +62,7 @@ returns-in-Some-clause-memory g c failed =
     let event = c.in-Some.event in
     let is = c.in_ok-event.ensures.event ∙ ap (λ (s : SoftView). event_by None s.own.state call memory) c.self.view_is in
     event_asks st.own.state call memory event (ask-planned st.own.state call Asks (sym c.requires.asks) refl) (sym is ∙ c.in-Some.is)
-    (refused c.applied.result (is_asking event) c.applied.ensures.asks failed)
+    (refused c.applied.result (wants_memory event) c.applied.ensures.asks failed)
 
 pub returns-in-None-clause-back : goal.returns-in-None-clause-back
 returns-in-None-clause-back g c =
