@@ -21,6 +21,9 @@ const READ: &str = "\
 4 4 0, 3: 0 ColorMask 0 1 1 1, 4: 0 DepthMask 0 : $0 ColorMask 0 1 255 0x7F;0 DepthMask -0;end;
 4 4 0, 3: 0 BindBuffer 34962 4294967295, 4: 0 BufferData 34963 -1 8 35044 : $0 BindBuffer ARRAY_BUFFER 4294967295;0 BufferData ELEMENT_ARRAY_BUFFER -1 8 STATIC_DRAW;end;
 4 4 0, 3: 0 BufferSubData 34962 -5 2147483647 16, 4: 0 DrawElements 4 3 5123 0 : $0 BufferSubData ARRAY_BUFFER -5 2147483647 0x10;0 DrawElements TRIANGLES 3 UNSIGNED_SHORT 0;end;
+4 4 0, 3: 0 TexEnvi 8960 8704 3042, 4: 0 TexEnvxv 8960 8705 4294967295 : $0 TexEnvi TEXTURE_ENV TEXTURE_ENV_MODE BLEND;0 TexEnvxv TEXTURE_ENV TEXTURE_ENV_COLOR 0xFFFFFFFF;end;
+4 4 0, 3: 0 TexImage2D 3553 -1 6408 0 257 -2147483648 6409 5121 64 : $0 TexImage2D TEXTURE_2D -1 RGBA 0 257 -2147483648 LUMINANCE UNSIGNED_BYTE 64;end;
+4 4 0, 3: 0 TexParameteri 3553 10240 9729, 4: 0 TexSubImage2D 3553 0 -3 2147483647 1 2 6406 5121 0 : $0 TexParameteri TEXTURE_2D TEXTURE_MAG_FILTER LINEAR;0 TexSubImage2D TEXTURE_2D 0 -3 2147483647 1 2 ALPHA UNSIGNED_BYTE 0;end;
 4 4 0, 3: 0 mem 0: 9 : $0 mem 0 09;end;
 4 4 0, 3: 0 mem 16: 160 191 : $00 mem 0x10 a0Bf\t;end;
 4 4 0, 3: 0 mem 4294967295: 255 255 0 : $0 mem 4294967295 FFff00;end;
@@ -61,6 +64,10 @@ line 3: OutOfRange : $0 GenBuffers 1 -1;
 line 3: OutOfRange : $0 BindBuffer ARRAY_BUFFER 4294967296;
 line 3: OutOfRange : $0 BufferSubData ARRAY_BUFFER 2147483648 0 0;
 line 3: UnknownWord : $0 BindBuffers 1 1;
+line 3: UnknownWord : $0 TexImage 1 1;
+line 3: OutOfRange : $0 TexEnvi 1 4294967296 1;
+line 3: OutOfRange : $0 TexSubImage2D 1 2147483648 0 0 0 0 1 1 0;
+line 3: OutOfRange : $0 TexImage2D 1 0 0 0 0 0 -1 1 0;
 line 3: NoSuchContext : $1 Flush;end;
 line 3: UnknownWord : $0 Mem 0 ab;
 line 3: UnknownWord : $0 images a 1 1 0;
@@ -212,6 +219,11 @@ Scalex 3
 Scissor 4
 ShadeModel 1
 TexCoordPointer 4
+TexEnvi 3
+TexEnvxv 3
+TexImage2D 9
+TexParameteri 3
+TexSubImage2D 9
 Translatex 3
 VertexPointer 4
 Viewport 4
@@ -292,17 +304,46 @@ const IMAGES: &str = "\
 
 #[test]
 fn images_take_at_most_67108864_bytes(rt: HostRuntime) -> Result<(), Fail> {
-    for row in IMAGES.lines() {
-        let (images, row) = row.split_once(' ').ok_or("no row")?;
-        let (outcome, rest) = row.split_once(" : ").ok_or("no row")?;
-        let mut script = script_in(rt.alloc(), "glscript 1;context 0 256 256 0;")?;
-        for _ in 0..images.parse::<u32>()? {
-            script.extend_from_slice(b"0 image a 256 256 0\n".as_slice())?;
-        }
-        script.extend_from_slice(script_in(rt.alloc(), rest)?.as_slice())?;
-        assert_eq!(rt; answer(rt.alloc(), script.as_slice())?.as_str(), outcome);
-    }
-    Ok(())
+    are_answered_behind(
+        &rt,
+        rt.alloc(),
+        "glscript 1;context 0 256 256 0;",
+        "0 image a 256 256 0;",
+        IMAGES,
+    )
+}
+
+// So many uploads of 67,108,864 bytes stand before the other lines; four reach the limit. The answers are those of another
+// program.
+const UPLOADS: &str = "\
+4 read : end;
+5 line 7: TooMany UploadBytes : end;
+4 read : 0 BufferData ARRAY_BUFFER -1 0 STATIC_DRAW;0 BufferSubData ARRAY_BUFFER 0 67108865 0;0 BufferSubData ARRAY_BUFFER 0 -2147483648 0;end;
+4 read : 0 TexImage2D TEXTURE_2D 0 RGBA 0 1 0 RGBA UNSIGNED_BYTE 0;0 TexImage2D TEXTURE_2D 0 RGBA 1 257 0 RGBA UNSIGNED_BYTE 0;0 TexImage2D TEXTURE_2D 0 RGBA -1 -1 0 RGBA UNSIGNED_BYTE 0;0 TexSubImage2D TEXTURE_2D 0 0 0 257 256 RGBA UNSIGNED_BYTE 0;0 TexSubImage2D TEXTURE_2D 0 0 0 1 0 RGBA UNSIGNED_BYTE 0;end;
+4 line 7: TooMany UploadBytes : 0 BufferData ARRAY_BUFFER 1 0 STATIC_DRAW;end;
+4 line 7: TooMany UploadBytes : 0 BufferSubData ARRAY_BUFFER 0 1 0;end;
+4 line 7: TooMany UploadBytes : 0 TexImage2D TEXTURE_2D 0 RGBA 1 1 0 RGBA UNSIGNED_BYTE 0;end;
+4 line 7: TooMany UploadBytes : 0 TexSubImage2D TEXTURE_2D 0 0 0 1 1 RGBA UNSIGNED_BYTE 0;end;
+4 line 7: TooMany UploadBytes : 0 BufferData 1 1 0 2;end;
+4 line 7: TooMany UploadBytes : 0 TexImage2D 1 2 3 1 1 4 5 6 7;end;
+4 line 7: NoSuchContext : 1 BufferData ARRAY_BUFFER 1 0 STATIC_DRAW;end;
+3 read : 0 BufferSubData ARRAY_BUFFER 0 66846720 0;0 TexImage2D TEXTURE_2D 0 RGBA 256 256 0 RGBA UNSIGNED_BYTE 0;end;
+3 line 7: TooMany UploadBytes : 0 BufferSubData ARRAY_BUFFER 0 66846721 0;0 TexImage2D TEXTURE_2D 0 RGBA 256 256 0 RGBA UNSIGNED_BYTE 0;end;
+3 read : 0 BufferSubData ARRAY_BUFFER 0 67108860 0;#;0 TexSubImage2D TEXTURE_2D 0 0 0 1 1 RGBA UNSIGNED_BYTE 0;0 BufferData ARRAY_BUFFER 0 0 STATIC_DRAW;end;
+3 line 8: TooMany UploadBytes : 0 BufferSubData ARRAY_BUFFER 0 67108861 0;#;0 TexSubImage2D TEXTURE_2D 0 0 0 1 1 RGBA UNSIGNED_BYTE 0;0 BufferData ARRAY_BUFFER 0 0 STATIC_DRAW;end;
+3 read : 0 BufferSubData ARRAY_BUFFER 0 66847744 0;0 TexSubImage2D TEXTURE_2D 0 0 0 255 255 RGBA UNSIGNED_BYTE 0;0 TexSubImage2D TEXTURE_2D 0 0 0 1 127 RGBA UNSIGNED_BYTE 0;0 TexSubImage2D TEXTURE_2D 0 0 0 1 1 RGBA UNSIGNED_BYTE 0;0 TexImage2D TEXTURE_2D 0 RGBA 127 1 0 RGBA UNSIGNED_BYTE 0;end;
+3 line 10: TooMany UploadBytes : 0 BufferSubData ARRAY_BUFFER 0 66847745 0;0 TexSubImage2D TEXTURE_2D 0 0 0 255 255 RGBA UNSIGNED_BYTE 0;0 TexSubImage2D TEXTURE_2D 0 0 0 1 127 RGBA UNSIGNED_BYTE 0;0 TexSubImage2D TEXTURE_2D 0 0 0 1 1 RGBA UNSIGNED_BYTE 0;0 TexImage2D TEXTURE_2D 0 RGBA 127 1 0 RGBA UNSIGNED_BYTE 0;end;
+";
+
+#[test]
+fn uploads_declare_at_most_268435456_bytes(rt: HostRuntime) -> Result<(), Fail> {
+    are_answered_behind(
+        &rt,
+        rt.alloc(),
+        "glscript 1;context 0 1 1 0;",
+        "0 BufferData ARRAY_BUFFER 67108864 0 STATIC_DRAW;",
+        UPLOADS,
+    )
 }
 
 // Each limit of size at its last accepted and its first refused value: behind a script stand so many empty lines,
@@ -334,6 +375,31 @@ fn the_limits_hold_at_their_edges(rt: HostRuntime) -> Result<(), Fail> {
         }
         script.extend_from_slice(script_in(rt.alloc(), rest)?.as_slice())?;
         assert_eq!(rt; answer(rt.alloc(), script.as_slice())?.as_str(), outcome);
+    }
+    Ok(())
+}
+
+/// Each row has the number of lines that stand between a head and its own lines.
+fn are_answered_behind(
+    rt: &impl Abort,
+    alloc: Global,
+    head: &str,
+    line: &str,
+    rows: &str,
+) -> Result<(), Fail> {
+    for row in rows.lines() {
+        let (count, row) = row.split_once(' ').ok_or("no row")?;
+        let (outcome, rest) = row.split_once(" : ").ok_or("no row")?;
+        let mut script = script_in(alloc, head)?;
+        for _ in 0..count.parse::<u32>()? {
+            script.extend_from_slice(script_in(alloc, line)?.as_slice())?;
+        }
+        script.extend_from_slice(script_in(alloc, rest)?.as_slice())?;
+        assert_eq!(rt;
+            answer(alloc, script.as_slice())?.as_str(),
+            outcome,
+            "at {rest}"
+        );
     }
     Ok(())
 }

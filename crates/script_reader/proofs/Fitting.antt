@@ -13,10 +13,10 @@ use Rattle.gl_words.specs.declared.shape.ArgKind.{ArgKind}
 use Rattle.script_reader.specs.Cutting.{words_of}
 use Rattle.script_reader.specs.Hex.{are_pairs, bytes_of, in_their_room}
 use Rattle.script_reader.specs.ImageBytes.{image_bytes, act_bytes, said_bytes}
-use Rattle.script_reader.specs.Judged.{◌>>=◌, is_within, numbers_of, arguments_of, context_of, judged_header, judged_context, judged_end, body_in, address_of, judged_mem, image_of, judged_image, judged_call, judged_body, judged_other, judged_counting, is_comment, judged_words, is_text_byte, judged}
+use Rattle.script_reader.specs.Judged.{◌>>=◌, numbers_of, arguments_of, context_of, judged_header, judged_context, judged_end, body_in, address_of, judged_mem, image_of, judged_image, judged_call, judged_body, judged_other, judged_counting, is_comment, judged_words, is_text_byte, judged}
 use Rattle.script_reader.specs.Limits.{IsContext, IsImage, IsAct, IsLine}
 use Rattle.script_reader.specs.Name.{name_of}
-use Rattle.script_reader.specs.Number.{decimal_of, number_of}
+use Rattle.script_reader.specs.Number.{is_within, decimal_of, number_of}
 use Rattle.script_reader.specs.declared.before.Before.{Before}
 use Rattle.script_reader.specs.declared.before.Said.{Said}
 use Rattle.script_reader.specs.declared.before.Said.TheVariants.{Nothing, Header, Context, Body, End}

@@ -6,6 +6,7 @@ use Rattle.std.proofs.lemmas.List.Folds.{list_any-append}
 use Rattle.std.proofs.lemmas.List.Sums.{sum_by_push}
 use Rattle.script_reader.specs.ImageBytes.{said_bytes}
 use Rattle.script_reader.specs.Judged.{judged_within}
+use Rattle.script_reader.specs.UploadBytes.{said_uploads}
 use Rattle.script_reader.specs.Grammar.{before_of, contexts_in, lines_said, numbered, and_then, all_said, script_of, script_said, says_something, is_context, is_body, is_end}
 use Rattle.script_reader.specs.Heard.{IsHeard, RefusesAs, after}
 use Rattle.script_reader.specs.declared.before.Before.{Before}
@@ -42,6 +43,7 @@ before_of-push saids said =
     let lines = length-append saids (said ∷ []) in
     let contexts = count_by-push is_context saids said in
     let images = sum_by_push said_bytes saids said in
+    let uploads = sum_by_push said_uploads saids said in
     let begun = list_any-push says_something saids said in
     let bodied = list_any-push is_body saids said in
     let ended = list_any-push is_end saids said in
@@ -70,7 +72,7 @@ IsHeard-push old new saids said contexts lines before heard = record {
   same_before = before ∙ ap (λ (b : Before). after b said) heard.same_before ∙ sym (before_of-push saids said);
 }
 
-pub IsHeard-nothing : (heard : Heard) → heard.contexts ≡ [] → heard.lines ≡ [] → heard.before ≡ record { lines = 0; contexts = 0; image_bytes = 0; begun = false; bodied = false; ended = false } → IsHeard heard []
+pub IsHeard-nothing : (heard : Heard) → heard.contexts ≡ [] → heard.lines ≡ [] → heard.before ≡ record { lines = 0; contexts = 0; image_bytes = 0; upload_bytes = 0; begun = false; bodied = false; ended = false } → IsHeard heard []
 unfolding before_of
 IsHeard-nothing heard contexts lines before = record { same_contexts = contexts; same_lines = lines; same_before = before }
 

@@ -8,7 +8,8 @@ use Rattle.script_reader.specs.Cutting.{lines_of, text_of}
 use Rattle.script_reader.specs.Grammar.{before_of, contexts_in, lines_said, numbered, and_then, all_said, script_of, script_said, is_context, is_end}
 use Rattle.script_reader.specs.Heard.{Reads, after}
 use Rattle.script_reader.specs.ImageBytes.{context_bytes, line_bytes, said_bytes}
-use Rattle.script_reader.specs.Judged.{◌>>=◌, judged, within_image_bytes, judged_within}
+use Rattle.script_reader.specs.Judged.{◌>>=◌, judged, within_image_bytes, within_upload_bytes, within_sums, judged_within}
+use Rattle.script_reader.specs.UploadBytes.{line_uploads, said_uploads}
 use Rattle.script_reader.specs.Limits.{IsContext, IsLine, HasOneContext, IsWithinLimits}
 use Rattle.script_reader.specs.declared.before.Before.{Before}
 use Rattle.script_reader.specs.declared.before.Said.{Said}
@@ -34,11 +35,25 @@ by_images before (Ok value) said h next =
     by_refusal (ltb 67108864 (before.image_bytes + said_bytes value)) _ _ said h (λ few same.
     next same (subst (λ (s : Said). before.image_bytes + said_bytes s ≤ 67108864) (same_said value said same) (ltb-false 67108864 (before.image_bytes + said_bytes value) few)))
 
--- a line that was said ends within the bytes, is no more than the last line, keeps to the sum of image bytes, and fits
+-- and to the sum of uploads
+by_uploads : {P : Type 0} (before : Before) (result : Result Said ScriptFault) (said : Said) → (result >>= within_upload_bytes before) ≡ Ok said → (result ≡ Ok said → before.upload_bytes + said_uploads said ≤ 268435456 → P) → P
+by_uploads before (Err fault) said h next = absurd (cc)
+by_uploads before (Ok value) said h next =
+    by_refusal (ltb 268435456 (before.upload_bytes + said_uploads value)) _ _ said h (λ few same.
+    next same (subst (λ (s : Said). before.upload_bytes + said_uploads s ≤ 268435456) (same_said value said same) (ltb-false 268435456 (before.upload_bytes + said_uploads value) few)))
+
+by_sums : {P : Type 0} (before : Before) (result : Result Said ScriptFault) (said : Said) → (result >>= within_sums before) ≡ Ok said → (result ≡ Ok said → before.image_bytes + said_bytes said ≤ 67108864 → before.upload_bytes + said_uploads said ≤ 268435456 → P) → P
+by_sums before (Err fault) said h next = absurd (cc)
+by_sums before (Ok value) said h next =
+    by_uploads before (within_image_bytes before value) said h (λ h1 uploads.
+    by_images before (Ok value) said h1 (λ same images. next same images uploads))
+
+-- a line that was said ends within the bytes, is no more than the last line, keeps to the sums of image bytes and of uploads, and fits
 record IsSaid (at : ℕ) (before : Before) (line : List ℕ) (said : Said) : Type 0 where
   few_bytes : at + length line ≤ 8388608
   few_lines : before.lines < 262144
   small_images : before.image_bytes + said_bytes said ≤ 67108864
+  small_uploads : before.upload_bytes + said_uploads said ≤ 268435456
   fits : Fits before said
 
 judged_within-is : (at : ℕ) (before : Before) (line : List ℕ) (said : Said) → judged_within at before line ≡ Ok said → IsSaid at before line said
@@ -46,11 +61,12 @@ unfolding judged_within
 judged_within-is at before line said h =
     by_refusal _ _ _ said h (λ bytes h1.
     by_refusal _ _ _ said h1 (λ lines h2.
-    by_images before (judged before (text_of line)) said h2 (λ is small.
+    by_sums before (judged before (text_of line)) said h2 (λ is small uploads.
     record {
       few_bytes = ltb-false 8388608 (at + length line) bytes;
       few_lines = leb-false 262144 before.lines lines;
       small_images = small;
+      small_uploads = uploads;
       fits = (text_fits before (text_of line)).fits said is;
     })))
 
@@ -93,6 +109,7 @@ record AreSaid (at : ℕ) (saids : List Said) : Type 0 where
   few_bytes : at ≤ 8388608
   few_lines : length saids ≤ 262144
   small_images : sum_by said_bytes saids ≤ 67108864
+  small_uploads : sum_by said_uploads saids ≤ 268435456
   lines : All IsLine (lines_said saids)
   counted : (before_of saids).contexts ≡ length (contexts_in saids)
   few_contexts : IsFew (contexts_in saids) (before_of saids).ended
@@ -103,6 +120,7 @@ AreSaid-nothing = record {
   few_bytes = omega arith;
   few_lines = omega arith;
   small_images = omega arith;
+  small_uploads = omega arith;
   lines = All-nil IsLine;
   counted = refl;
   few_contexts = refl;
@@ -115,6 +133,10 @@ before_of-lines saids = refl
 before_of-images : (saids : List Said) → (before_of saids).image_bytes ≡ sum_by said_bytes saids
 unfolding before_of
 before_of-images saids = refl
+
+before_of-uploads : (saids : List Said) → (before_of saids).upload_bytes ≡ sum_by said_uploads saids
+unfolding before_of
+before_of-uploads saids = refl
 
 before_of-ended : (saids : List Said) → (before_of saids).ended ≡ list_any is_end saids
 unfolding before_of
@@ -132,6 +154,9 @@ AreSaid-push at saids line said are is =
       small_images =
           let small : (before_of saids).image_bytes + said_bytes said ≤ 67108864 = is.small_images in
           omega (arith, sum_by_push said_bytes saids said, before_of-images saids);
+      small_uploads =
+          let small : (before_of saids).upload_bytes + said_uploads said ≤ 268435456 = is.small_uploads in
+          omega (arith, sum_by_push said_uploads saids said, before_of-uploads saids);
       lines =
           subst (λ (ls : List Line). All IsLine ls) (sym (lines_in-push saids said))
           (All-append IsLine (lines_said saids) (lines_said (said ∷ [])) are.lines (lines_in-are (before_of saids) said is.fits));
@@ -182,11 +207,22 @@ images_in (Body line ∷ saids) =
     omega (arith, images_in saids, sum_by-cons said_bytes (Body line) saids, sum_by-cons line_bytes line (lines_said saids))
 images_in (End ∷ saids) = omega (arith, images_in saids, sum_by-cons said_bytes End saids)
 
+-- the uploads of body lines are all uploads
+uploads_in : (saids : List Said) → sum_by line_uploads (lines_said saids) ≡ sum_by said_uploads saids
+uploads_in [] = refl
+uploads_in (Nothing ∷ saids) = omega (arith, uploads_in saids, sum_by-cons said_uploads Nothing saids)
+uploads_in (Header ∷ saids) = omega (arith, uploads_in saids, sum_by-cons said_uploads Header saids)
+uploads_in (Context context ∷ saids) = omega (arith, uploads_in saids, sum_by-cons said_uploads (Context context) saids)
+uploads_in (Body line ∷ saids) =
+    omega (arith, uploads_in saids, sum_by-cons said_uploads (Body line) saids, sum_by-cons line_uploads line (lines_said saids))
+uploads_in (End ∷ saids) = omega (arith, uploads_in saids, sum_by-cons said_uploads End saids)
+
 -- all lines were said, and `end` came
 record AllAreSaid (size : ℕ) (saids : List Said) : Type 0 where
   few_bytes : size ≤ 8388608
   few_lines : length saids ≤ 262144
   small_images : sum_by said_bytes saids ≤ 67108864
+  small_uploads : sum_by said_uploads saids ≤ 268435456
   lines : All IsLine (lines_said saids)
   one_context : HasOneContext (contexts_in saids)
 
@@ -200,6 +236,7 @@ AllAreSaid-end at saids are came = record {
   few_bytes = are.few_bytes;
   few_lines = are.few_lines;
   small_images = are.small_images;
+  small_uploads = are.small_uploads;
   lines = are.lines;
   one_context = one_where_ended (contexts_in saids) ((before_of saids).ended) are.few_contexts (before_of-ended saids ∙ came);
 }
@@ -241,6 +278,7 @@ what_is_spelled_is_within bytes script h =
       lines = are.lines;
       one_context = are.one_context;
       small_images = let small : sum_by said_bytes all ≤ 67108864 = are.small_images in omega (arith, images_in all);
+      small_uploads = let small : sum_by said_uploads all ≤ 268435456 = are.small_uploads in omega (arith, uploads_in all);
     }))
 
 -- and so is what a reader gives

@@ -4,6 +4,7 @@ use Rattle.std.specs.List.{list_any, sum_by}
 use Rattle.script_reader.specs.Cutting.{lines_of}
 use Rattle.script_reader.specs.ImageBytes.{said_bytes}
 use Rattle.script_reader.specs.Judged.{judged_within}
+use Rattle.script_reader.specs.UploadBytes.{said_uploads}
 use Rattle.script_reader.specs.declared.before.Before.{Before}
 use Rattle.script_reader.specs.declared.before.Said.{Said}
 use Rattle.script_reader.specs.declared.before.Said.TheVariants.{Nothing, Context, Body, End}
@@ -38,7 +39,7 @@ is_end _ = false
 
 -- what the tests of a line ask of the lines before it
 unfoldable pub before_of : List Said → Before
-before_of saids = record { lines = length saids; contexts = count_by is_context saids; image_bytes = sum_by said_bytes saids; begun = list_any says_something saids; bodied = list_any is_body saids; ended = list_any is_end saids }
+before_of saids = record { lines = length saids; contexts = count_by is_context saids; image_bytes = sum_by said_bytes saids; upload_bytes = sum_by said_uploads saids; begun = list_any says_something saids; bodied = list_any is_body saids; ended = list_any is_end saids }
 
 -- what was judged of the line after these, with its number
 abbrev pub numbered : {A : Type 0} → List Said → Result A ScriptFault → Result A ScriptError

@@ -2,6 +2,7 @@
 use Rattle.std.specs.Prelude.{◌≡◌, ℕ, ◌+◌, ◌||◌, List, [], ◌∷◌, ◌++◌, Result, Ok, Err, if◌then◌else◌}
 use Rattle.script_reader.specs.ImageBytes.{said_bytes}
 use Rattle.script_reader.specs.Judged.{judged_within}
+use Rattle.script_reader.specs.UploadBytes.{said_uploads}
 use Rattle.script_reader.specs.Grammar.{before_of, contexts_in, lines_said, numbered, says_something, is_context, is_body, is_end}
 use Rattle.script_reader.specs.declared.before.Before.{Before}
 use Rattle.script_reader.specs.declared.before.Said.{Said}
@@ -23,6 +24,7 @@ after before said = record {
   lines = before.lines + 1;
   contexts = before.contexts + (if is_context said then 1 else 0);
   image_bytes = before.image_bytes + said_bytes said;
+  upload_bytes = before.upload_bytes + said_uploads said;
   begun = before.begun || says_something said;
   bodied = before.bodied || is_body said;
   ended = before.ended || is_end said;

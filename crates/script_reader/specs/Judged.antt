@@ -1,5 +1,5 @@
 -- What a line says, given what the lines before it have said, or the first of the tests that it fails; own. How it is cut into words is told in `Cutting.antt`.
-use Rattle.std.specs.Prelude.{ℕ, ◌+◌, ℤ, pos, nat_abs, int_le, Bool, false, not, List, [], ◌∷◌, Option, Some, None, Result, Ok, Err, length, nat_lt, nat_le, ◌==◌, ◌&&◌, ◌||◌, if◌then◌else◌, codes}
+use Rattle.std.specs.Prelude.{ℕ, ◌+◌, ℤ, pos, nat_abs, Bool, false, not, List, [], ◌∷◌, Option, Some, None, Result, Ok, Err, length, nat_lt, nat_le, ◌==◌, ◌&&◌, ◌||◌, if◌then◌else◌, codes}
 use Rattle.std.specs.List.{list_all}
 use Rattle.std.specs.Option.{option_map, ok_or}
 use Rattle.std.specs.Prelude.{option_and_then}
@@ -12,7 +12,8 @@ use Rattle.script_reader.specs.Cutting.{words_of, text_of}
 use Rattle.script_reader.specs.Hex.{bytes_of, in_their_room}
 use Rattle.script_reader.specs.ImageBytes.{said_bytes}
 use Rattle.script_reader.specs.Name.{name_of}
-use Rattle.script_reader.specs.Number.{decimal_of, number_of, argument_of}
+use Rattle.script_reader.specs.Number.{is_within, decimal_of, number_of, argument_of}
+use Rattle.script_reader.specs.UploadBytes.{said_uploads}
 use Rattle.script_reader.specs.declared.before.Before.{Before}
 use Rattle.script_reader.specs.declared.before.Said.{Said}
 use Rattle.script_reader.specs.declared.before.Said.TheVariants.{Nothing, Header, Context, Body, End}
@@ -39,10 +40,6 @@ judged_header first (second ∷ third ∷ others) = Err BadHeader
 unfoldable pub numbers_of : List (List ℕ) → Option (List ℤ)
 numbers_of [] = Some []
 numbers_of (word ∷ words) = option_and_then (λ number. option_map (λ numbers. number ∷ numbers) (numbers_of words)) (number_of word)
-
--- an integer lies between two numbers, or is one of them
-abbrev pub is_within : ℕ → ℕ → ℤ → Bool
-is_within low high number = int_le (pos low) number && int_le number (pos high)
 
 -- the context that four numbers describe, after this many others
 unfoldable pub context_of : ℕ → List ℤ → Option ContextSpec
@@ -172,9 +169,17 @@ judged before text = if list_all is_text_byte text then judged_words before (wor
 abbrev pub within_image_bytes : Before → Said → Result Said ScriptFault
 within_image_bytes before said = if nat_lt 67108864 (before.image_bytes + said_bytes said) then Err (TooMany limits.ImageBytes) else Ok said
 
--- a line that begins after this many bytes: within 8,388,608 bytes and 262,144 lines it is judged by what it says, and last by the bytes of all images
+-- what is said, if all calls up to this line declare at most 268,435,456 bytes of uploads
+abbrev pub within_upload_bytes : Before → Said → Result Said ScriptFault
+within_upload_bytes before said = if nat_lt 268435456 (before.upload_bytes + said_uploads said) then Err (TooMany limits.UploadBytes) else Ok said
+
+-- what is said, if neither sum passes its limit at this line
+abbrev pub within_sums : Before → Said → Result Said ScriptFault
+within_sums before said = within_image_bytes before said >>= within_upload_bytes before
+
+-- a line that begins after this many bytes: within 8,388,608 bytes and 262,144 lines it is judged by what it says, and last by the bytes of all images and uploads
 unfoldable pub judged_within : ℕ → Before → List ℕ → Result Said ScriptFault
 judged_within at before line =
     if nat_lt 8388608 (at + length line) then Err (TooMany limits.SourceBytes) else (
     if nat_le 262144 before.lines then Err (TooMany limits.Lines) else
-    (judged before (text_of line) >>= within_image_bytes before))
+    (judged before (text_of line) >>= within_sums before))

@@ -8,6 +8,7 @@ pub mod Limits
 pub mod Name
 pub mod Number
 pub mod Told
+pub mod UploadBytes
 pub use Rattle.gl_memory.specs.Room
 pub use Rattle.gl_words.specs.Call
 pub use Rattle.gl_words.specs.CallOf

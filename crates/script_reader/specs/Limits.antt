@@ -2,6 +2,7 @@
 use Rattle.std.specs.Prelude.{◌≡◌, ℕ, ◌<◌, ◌≤◌, List, [], ◌∷◌, length}
 use Rattle.std.specs.List.{All}
 use Rattle.script_reader.specs.ImageBytes.{script_bytes}
+use Rattle.script_reader.specs.UploadBytes.{script_uploads}
 use Rattle.script_reader.specs.declared.script.Act.{Act}
 use Rattle.script_reader.specs.declared.script.Act.TheVariants.{Mem, Image, Gl}
 use Rattle.script_reader.specs.declared.script.ContextSpec.{ContextSpec}
@@ -43,10 +44,11 @@ IsAct (Gl call) = Unit {0}
 abbrev pub IsLine : Line → Type 0
 IsLine line = IsAct line.act
 
--- the bytes are at most 8,388,608 and the lines that are carried out at most 262,144, each within its limits, there is one context, and the images take at most 67,108,864 bytes; own
+-- the bytes are at most 8,388,608 and the lines that are carried out at most 262,144, each within its limits, there is one context, the images take at most 67,108,864 bytes, and the calls declare at most 268,435,456 bytes of uploads; own
 pub record IsWithinLimits (bytes : List ℕ) (script : Script) : Type 0 where
   pub few_bytes : length bytes ≤ 8388608
   pub few_lines : length script.lines ≤ 262144
   pub lines : All IsLine script.lines
   pub one_context : HasOneContext script.contexts
   pub small_images : script_bytes script ≤ 67108864
+  pub small_uploads : script_uploads script ≤ 268435456

@@ -1,10 +1,14 @@
 -- How words spell numbers; own.
-use Rattle.std.specs.Prelude.{ℕ, ◌+◌, ◌-◌, ◌*◌, ℤ, pos, neg_ℤ, List, [], ◌∷◌, Option, Some, None, length, nat_lt, nat_le, ◌==◌, ◌&&◌, if◌then◌else◌, fold}
+use Rattle.std.specs.Prelude.{ℕ, ◌+◌, ◌-◌, ◌*◌, ℤ, pos, neg_ℤ, int_le, Bool, List, [], ◌∷◌, Option, Some, None, length, nat_lt, nat_le, ◌==◌, ◌&&◌, if◌then◌else◌, fold}
 use Rattle.std.specs.List.{list_all}
 use Rattle.std.specs.Option.{option_map}
 use Rattle.std.specs.Char.{is_ascii_digit, is_ascii_hexdigit}
 use Rattle.std.specs.Int.{is_in_range}
 use Rattle.gl_words.specs.Names.{number_named}
+
+-- an integer lies between two numbers, or is one of them
+abbrev pub is_within : ℕ → ℕ → ℤ → Bool
+is_within low high number = int_le (pos low) number && int_le number (pos high)
 
 -- the number that decimal digits spell: ten times the one before the last digit, and that digit
 abbrev pub decimal_value : List ℕ → ℕ

@@ -23,6 +23,8 @@ pub(crate) struct Before {
     pub(crate) contexts: u32,
     /// How many bytes the images so far take: at most 67,108,864.
     pub(crate) image_bytes: u32,
+    /// How many bytes of uploads the calls so far declare: at most 268,435,456.
+    pub(crate) upload_bytes: u32,
     /// The header came.
     pub(crate) begun: bool,
     /// A body line came.

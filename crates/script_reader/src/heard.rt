@@ -7,13 +7,14 @@ ghost use Rattle.script_reader.specs.declared.error.ReadRefusal.TheVariants.{NoM
 ghost use Rattle.script_reader.specs.Grammar.{contexts_in, lines_said, says_something, is_context, is_body, is_end};
 ghost use Rattle.script_reader.specs.Cutting.{text_of};
 ghost use Rattle.script_reader.specs.ImageBytes.{said_bytes};
+ghost use Rattle.script_reader.specs.UploadBytes.{said_uploads};
 ghost use Rattle.script_reader.specs.Judged.{is_text_byte};
 ghost use Rattle.script_reader.specs.Heard.{IsHeard, HearsLine, RefusesLine, after};
 
 use crate::before::{Before, Said};
 use crate::contexts::Contexts;
 use crate::error::{ReadRefusal, ScriptError};
-use crate::line::{image_bytes_said, judge_within};
+use crate::line::{image_bytes_said, judge_within, upload_bytes_said};
 use crate::lines::Lines;
 use std::alloc::{AllocError, Global};
 
@@ -38,6 +39,7 @@ pub(crate) fn nothing_heard(alloc: Global) -> Heard
             lines: 0,
             contexts: 0,
             image_bytes: 0,
+            upload_bytes: 0,
             begun: false,
             bodied: false,
             ended: false,
@@ -74,6 +76,7 @@ pub(crate) fn hear_line(
 fn hear(heard: &mut Heard, alloc: Global, said: Said<'_>) -> Result<(), ReadRefusal>
     requires lines { heard.old.before.lines < 262144 }
     requires images { heard.old.before.image_bytes + said_bytes said ≤ 67108864 }
+    requires uploads { heard.old.before.upload_bytes + said_uploads said ≤ 268435456 }
     requires few { heard.old.before.contexts ≤ heard.old.before.lines }
     ensures contexts { OnOk result
         (heard.new.contexts ≡ heard.old.contexts ++ contexts_in (said.entry ∷ [])) }
@@ -111,6 +114,7 @@ fn before_after(before: Before, said: &Said<'_>) -> Before
     requires lines { before.lines < 262144 }
     requires few { before.contexts ≤ before.lines }
     requires images { before.image_bytes + said_bytes said.now ≤ 67108864 }
+    requires uploads { before.upload_bytes + said_uploads said.now ≤ 268435456 }
     ensures gives { result ≡ after before said.now }
     ensures few { result.contexts ≤ result.lines }
 {
@@ -118,6 +122,7 @@ fn before_after(before: Before, said: &Said<'_>) -> Before
         lines: before.lines + 1,
         contexts: before.contexts + u32::from(is_context(said)),
         image_bytes: before.image_bytes + image_bytes_said(said) as u32,
+        upload_bytes: before.upload_bytes + upload_bytes_said(said) as u32,
         begun: before.begun | says_something(said),
         bodied: before.bodied | is_body(said),
         ended: before.ended | is_end(said),

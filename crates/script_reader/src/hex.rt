@@ -7,8 +7,8 @@ use crate::number::{all_hexadecimal, digit_value};
 use gl_memory::Octets;
 use std::alloc::{AllocError, Global};
 
-/// Whether a word is one or more pairs of hexadecimal digits.
-pub(crate) fn is_hex(word: &[u8]) -> bool
+/// Whether a word is one or more pairs of hexadecimal digits; own.
+pub fn is_hex(word: &[u8]) -> bool
     ensures { result ≡ are_pairs word.now }
 {
     !word.is_empty() && word.len() % 2 == 0 && all_hexadecimal(word)

@@ -16,12 +16,15 @@ mod numbers;
 mod reader;
 mod script;
 mod told;
+mod uploads;
 mod words;
 
 pub use contexts::Contexts;
 pub use error::{Limit, ReadRefusal, ScriptError, ScriptFault};
+pub use hex::is_hex;
 pub use lines::Lines;
 pub use name::Name;
-pub use number::decimal_from;
+pub use number::{argument_from, decimal_from, number_from};
 pub use reader::read;
 pub use script::{Act, ContextSpec, Line, Script};
+pub use words::next_word;

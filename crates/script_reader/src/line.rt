@@ -5,7 +5,8 @@ ghost use Rattle.std.specs.Prelude.{◌≡◌, ℕ, ◌+◌, ◌^◌, ◌<◌, �
 ghost use Rattle.std.specs.List.{list_all};
 ghost use Rattle.script_reader.specs.Cutting.{text_of, words_of};
 ghost use Rattle.script_reader.specs.ImageBytes.{said_bytes};
-ghost use Rattle.script_reader.specs.Judged.{judged_header, context_of, judged_context, judged_end, judged_other, judged_counting, judged_words, is_comment, is_text_byte, judged, judged_within, within_image_bytes};
+ghost use Rattle.script_reader.specs.UploadBytes.{said_uploads};
+ghost use Rattle.script_reader.specs.Judged.{judged_header, context_of, judged_context, judged_end, judged_other, judged_counting, judged_words, is_comment, is_text_byte, judged, judged_within, within_image_bytes, within_upload_bytes, within_sums};
 ghost use Rattle.script_reader.specs.declared.before.Said.TheVariants.{Nothing};
 
 use crate::before::{Before, Said};
@@ -27,6 +28,9 @@ const LINES: u32 = 262_144;
 /// The most bytes that the images of a script take; own.
 const IMAGE_BYTES: u64 = 67_108_864;
 
+/// The most bytes of uploads that the calls of a script declare; own.
+const UPLOAD_BYTES: u64 = 268_435_456;
+
 /// Judges a line that begins after this many bytes, with its line end, where it is known whether it is text.
 #[tactic(auto, unfolding(crate::specs::Judged::judged_within))]
 pub(crate) fn judge_within(
@@ -40,6 +44,7 @@ pub(crate) fn judge_within(
     ensures gives { result ≡ judged_within at before line.now }
     ensures few { OnOk result (before.lines < 262144) }
     ensures images { IfOk result (λ said. before.image_bytes + said_bytes said ≤ 67108864) }
+    ensures uploads { IfOk result (λ said. before.upload_bytes + said_uploads said ≤ 268435456) }
 {
     if SOURCE_BYTES < at + line.len() {
         return Err(ScriptFault::TooMany(Limit::SourceBytes));
@@ -48,7 +53,19 @@ pub(crate) fn judge_within(
         return Err(ScriptFault::TooMany(Limit::Lines));
     }
     match judge(before, text_in(line), is_text) {
-        Ok(said) => within_image_bytes(before, said),
+        Ok(said) => within_sums(before, said),
+        Err(fault) => Err(fault),
+    }
+}
+
+fn within_sums(before: Before, said: Said<'_>) -> Result<Said<'_>, ScriptFault>
+    requires small { said_bytes said ≤ 196608 }
+    ensures gives { result ≡ within_sums before said.entry }
+    ensures images { IfOk result (λ said. before.image_bytes + said_bytes said ≤ 67108864) }
+    ensures uploads { IfOk result (λ said. before.upload_bytes + said_uploads said ≤ 268435456) }
+{
+    match within_image_bytes(before, said) {
+        Ok(said) => within_upload_bytes(before, said),
         Err(fault) => Err(fault),
     }
 }
@@ -62,6 +79,30 @@ fn within_image_bytes(before: Before, said: Said<'_>) -> Result<Said<'_>, Script
         Err(ScriptFault::TooMany(Limit::ImageBytes))
     } else {
         Ok(said)
+    }
+}
+
+fn within_upload_bytes(before: Before, said: Said<'_>) -> Result<Said<'_>, ScriptFault>
+    requires images { before.image_bytes + said_bytes said ≤ 67108864 }
+    ensures gives { result ≡ within_upload_bytes before said.entry }
+    ensures images { IfOk result (λ said. before.image_bytes + said_bytes said ≤ 67108864) }
+    ensures uploads { IfOk result (λ said. before.upload_bytes + said_uploads said ≤ 268435456) }
+{
+    if UPLOAD_BYTES < u64::from(before.upload_bytes) + upload_bytes_said(&said) {
+        Err(ScriptFault::TooMany(Limit::UploadBytes))
+    } else {
+        Ok(said)
+    }
+}
+
+/// How many bytes of uploads the call declares that comes of what a line says.
+pub(crate) fn upload_bytes_said(said: &Said<'_>) -> u64
+    ensures gives { result ≡ said_uploads said.now }
+    ensures few { result ≤ 67108864 }
+{
+    match said {
+        Said::Body(told) => told.upload_bytes(),
+        Said::Nothing | Said::Header | Said::Context(_) | Said::End => 0,
     }
 }
 

@@ -85,9 +85,9 @@ pub(crate) fn digit_value(digit: u8) -> u8
     }
 }
 
-/// The number that a word spells: decimal, behind a minus too, or hexadecimal behind `0x`.
+/// The number that a word spells: decimal, behind a minus too, or hexadecimal behind `0x`; own. None exactly where it spells none.
 #[tactic(auto, unfolding(crate::specs::Number::number_of))]
-pub(crate) fn number_from(word: &[u8]) -> Option<i64>
+pub fn number_from(word: &[u8]) -> Option<i64>
     ensures { result ≡ number_of word.now }
 {
     match word {
@@ -118,9 +118,9 @@ fn negated(number: Option<u64>) -> Option<i64>
     }
 }
 
-/// The number that an argument of a call spells: one spelled out, or a name's.
+/// The number that an argument of a call spells: one spelled out, or a name's; own. None exactly where it spells none.
 #[tactic(auto, unfolding(crate::specs::Number::argument_of))]
-pub(crate) fn argument_from(word: &[u8]) -> Option<i64>
+pub fn argument_from(word: &[u8]) -> Option<i64>
     ensures { result ≡ argument_of word.now }
 {
     match number_from(word) {

@@ -1,11 +1,13 @@
 //! A body line that was judged. Its bytes are still digits in the source, so that judging takes no memory.
 
-ghost use Rattle.std.specs.Prelude.{◌≡◌, ◌^◌, ◌<◌, IfOk};
+ghost use Rattle.std.specs.Prelude.{◌≡◌, ◌^◌, ◌<◌, ◌≤◌, IfOk};
 ghost use Rattle.script_reader.specs.ImageBytes.{image_bytes, line_bytes};
+ghost use Rattle.script_reader.specs.UploadBytes.{line_uploads};
 
 use crate::hex::octets_from;
 use crate::name::Name;
 use crate::script::{Act, Line};
+use crate::uploads::upload_bytes_of;
 use gl_words::Call;
 use std::alloc::{AllocError, Global};
 use std::marker::Model;
@@ -54,6 +56,17 @@ impl Told<'_> {
         match &self.act {
             Asked::Image { width, height, .. } => image_bytes_of(*width, *height),
             Asked::Mem { .. } | Asked::Gl(_) => 0,
+        }
+    }
+
+    /// How many bytes of uploads it declares.
+    pub(crate) fn upload_bytes(&self) -> u64
+        ensures gives { result ≡ line_uploads self.now }
+        ensures few { result ≤ 67108864 }
+    {
+        match &self.act {
+            Asked::Gl(call) => upload_bytes_of(call),
+            Asked::Mem { .. } | Asked::Image { .. } => 0,
         }
     }
 

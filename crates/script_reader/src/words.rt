@@ -3,8 +3,8 @@
 ghost use Rattle.std.specs.Prelude.{◌≡◌, ℕ, ◌<◌, ◌≤◌, List, [], ◌∷◌, length, take, drop, IfSome, MatchOption, false, slice_index};
 ghost use Rattle.script_reader.specs.Cutting.{words_of, is_blank};
 
-/// The first word, and what follows it. None where no word is left.
-pub(crate) fn next_word(text: &[u8]) -> Option<(&[u8], &[u8])>
+/// The first word, and what follows it; own. None where no word is left.
+pub fn next_word(text: &[u8]) -> Option<(&[u8], &[u8])>
     ensures cases { MatchOption result (words_of text.now ≡ [])
         (λ p. words_of text.now ≡ p.0.now ∷ words_of p.1.now) }
     ensures shorter { IfSome result (λ p. length p.1.now < length text.now) }
