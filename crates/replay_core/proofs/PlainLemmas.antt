@@ -61,6 +61,12 @@ module _ {S : Type 0} (tracked : S → Tracked) (steps : Steps S) (laws : IsDriv
       ∙ sym (memory_after-nothing (tracked driver) call memory)
       ∙ ap (λ (r : Replied). memory_after (tracked driver) call r memory) (sym none)
 
+  -- where a call asks for nothing, memory stays as it is
+  pub unwritten : is_answering call ≡ false → memory ≡ memory_after (tracked driver2) call reply memory
+  unwritten silent =
+      let none : reply ≡ Nothing = laws.replies driver call (memory_of memory) driver2 reply in_range bytes silent step in
+      sym (ap (λ (r : Replied). memory_after (tracked driver2) call r memory) none ∙ memory_after-nothing (tracked driver2) call memory)
+
   -- a reply is written by the tracked state after its call as by that before it
   pub written_after : memory_after (tracked driver2) call reply memory ≡ memory_after (tracked driver) call reply memory
   written_after = written_by (is_answering call) refl

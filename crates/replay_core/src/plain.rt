@@ -173,8 +173,8 @@ impl<D: Shows> Plain<D> {
         }
     }
 
-    /// Carries a line's call out. The driver is asked once, and so is whether the call asks for something. Its reply is written
-    /// by the tracked state after the call: only calls that ask for something reply, and such calls leave tracked state.
+    /// Carries a line's call out. The driver is asked once, and so is whether the call asks for something: only then is there a
+    /// reply. It is written by the tracked state after the call, which such calls leave as it was.
     fn carry_out_call<T: Threads + Sync>(
         &mut self,
         rt: &T,
@@ -188,8 +188,8 @@ impl<D: Shows> Plain<D> {
         let asks = is_answering(call);
         self.memory.bytes();
         let reply = self.driver.call(rt, call, &self.memory)?;
-        write_reply(&mut self.memory, self.driver.shown(), call, &reply);
         if asks {
+            write_reply(&mut self.memory, self.driver.shown(), call, &reply);
             self.results.answer(line.number, line.context, call, reply)
         } else {
             Ok(())

@@ -16,6 +16,10 @@ mod rails;
 #[cfg(test)]
 mod runs;
 #[cfg(test)]
+mod texture_errors;
+#[cfg(test)]
+mod textures;
+#[cfg(test)]
 mod told;
 #[cfg(test)]
 mod ways;

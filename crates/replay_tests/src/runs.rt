@@ -5,6 +5,8 @@ ghost use Rattle.std.specs.Prelude.{◌<◌};
 use crate::drawn::DRAWN;
 use crate::limits::{LARGE, MOST_BATCHES, MOST_LINES, PAST_LIMITS, SMALL};
 use crate::objects::OBJECTS;
+use crate::texture_errors::TEXTURE_ERRORS;
+use crate::textures::TEXTURES;
 use crate::told::{REFUSED, RUNS};
 use crate::ways::{Left, Outside, Ready, WAYS, Way, replay_over, wait_over};
 use batch_rail::{JournalMaker, RailKind};
@@ -198,22 +200,36 @@ fn count_drawn<T: Threads + Wait + Copy + Send + Sync + Abort + 'static>(
     Ok(count)
 }
 
+/// Runs each of these scripts in each way, as often as is told of the way.
+fn check_drawn<T: Threads + Wait + Copy + Send + Sync + Abort + 'static>(
+    rt: T,
+    alloc: Global,
+    scripts: &str,
+    counts: [u32; 4],
+) -> Result<(), Fail> {
+    for (way, runs) in WAYS.into_iter().zip(counts) {
+        assert_eq!(rt; count_drawn(rt, alloc, way, scripts)?, runs, "{way:?}");
+    }
+    Ok(())
+}
+
 // The first eight were worked by hand, and another program gives the same; the others are that program's.
 #[test]
 fn each_script_that_draws_has_its_report_and_its_images(rt: HostRuntime) -> Result<(), Fail> {
-    for (way, runs) in WAYS.into_iter().zip([33, 33, 22, 22]) {
-        assert_eq!(rt; count_drawn(rt, rt.alloc(), way, DRAWN)?, runs, "{way:?}");
-    }
-    Ok(())
+    check_drawn(rt, rt.alloc(), DRAWN, [33, 33, 22, 22])
 }
 
 // The first five were worked by hand, and another program gives the same; the others are that program's.
 #[test]
 fn each_script_of_objects_has_its_report_and_its_images(rt: HostRuntime) -> Result<(), Fail> {
-    for (way, runs) in WAYS.into_iter().zip([30, 30, 20, 20]) {
-        assert_eq!(rt; count_drawn(rt, rt.alloc(), way, OBJECTS)?, runs, "{way:?}");
-    }
-    Ok(())
+    check_drawn(rt, rt.alloc(), OBJECTS, [30, 30, 20, 20])
+}
+
+// The first three were worked by hand, and another program gives the same; the others are that program's.
+#[test]
+fn each_script_of_textures_has_its_report_and_its_images(rt: HostRuntime) -> Result<(), Fail> {
+    check_drawn(rt, rt.alloc(), TEXTURES, [27, 27, 18, 18])?;
+    check_drawn(rt, rt.alloc(), TEXTURE_ERRORS, [3, 3, 2, 2])
 }
 
 // The lines and the faults are those of FORMATS.md, and of another program. Other words that are

@@ -1,0 +1,138 @@
+//! A script of the errors of textures, and what it leaves, as data in the form of `drawn.rt`.
+
+/// Each error of the five calls, the first of several, and one that is found behind a later error.
+pub(crate) const TEXTURE_ERRORS: &str = "\
+@0 42 41 0 41~0 42 41 0 40~
+glscript 1
+context 0 1 1 16
+0 TexEnvi 0x2301 0 0
+0 GetError
+0 TexEnvi TEXTURE_ENV TEXTURE_ENV_COLOR REPLACE
+0 GetError
+0 TexEnvi TEXTURE_ENV TEXTURE_ENV_MODE 7
+0 GetError
+0 TexEnvi TEXTURE_ENV TEXTURE_ENV_MODE -1
+0 GetError
+0 TexEnvxv TEXTURE_2D TEXTURE_ENV_COLOR 0
+0 GetError
+0 TexEnvxv TEXTURE_ENV TEXTURE_ENV_MODE 0
+0 GetError
+0 TexParameteri 0x0DE0 TEXTURE_MIN_FILTER NEAREST
+0 GetError
+0 TexParameteri TEXTURE_2D 0x2804 NEAREST
+0 GetError
+0 TexParameteri TEXTURE_2D TEXTURE_MAG_FILTER LINEAR_MIPMAP_LINEAR
+0 GetError
+0 TexParameteri TEXTURE_2D TEXTURE_MIN_FILTER REPEAT
+0 GetError
+0 TexParameteri TEXTURE_2D TEXTURE_WRAP_S NEAREST
+0 GetError
+0 TexParameteri TEXTURE_2D TEXTURE_WRAP_T 0x2900
+0 GetError
+0 TexImage2D 0x0DE0 1 RGB 3 3 1 RGBA UNSIGNED_BYTE 0
+0 GetError
+0 TexImage2D TEXTURE_2D 1 RGB 3 3 1 0x1905 UNSIGNED_BYTE 0
+0 GetError
+0 TexImage2D TEXTURE_2D 1 RGB 3 3 1 RGBA BYTE 0
+0 GetError
+0 TexImage2D TEXTURE_2D 1 RGB 1 1 0 RGBA UNSIGNED_BYTE 0
+0 GetError
+0 TexImage2D TEXTURE_2D 0 4 1 1 0 RGBA UNSIGNED_BYTE 0
+0 GetError
+0 TexImage2D TEXTURE_2D 0 RGBA 0 1 0 RGBA UNSIGNED_BYTE 0
+0 GetError
+0 TexImage2D TEXTURE_2D 0 RGBA 1 3 0 RGBA UNSIGNED_BYTE 0
+0 GetError
+0 TexImage2D TEXTURE_2D 0 RGBA 512 1 0 RGBA UNSIGNED_BYTE 0
+0 GetError
+0 TexImage2D TEXTURE_2D 0 RGBA 1 1 1 RGBA UNSIGNED_BYTE 0
+0 GetError
+0 TexImage2D TEXTURE_2D 0 RGB 1 1 0 RGBA UNSIGNED_BYTE 0
+0 GetError
+0 TexSubImage2D 0x0DE0 1 -1 0 0 0 RGBA UNSIGNED_BYTE 0
+0 GetError
+0 TexSubImage2D TEXTURE_2D 1 0 0 0 0 0 UNSIGNED_BYTE 0
+0 GetError
+0 TexSubImage2D TEXTURE_2D 1 0 0 0 0 RGBA FIXED 0
+0 GetError
+0 TexSubImage2D TEXTURE_2D 1 0 0 0 0 RGBA UNSIGNED_BYTE 0
+0 GetError
+0 TexSubImage2D TEXTURE_2D 0 -1 0 0 0 RGBA UNSIGNED_BYTE 0
+0 GetError
+0 TexSubImage2D TEXTURE_2D 0 0 -1 0 0 RGBA UNSIGNED_BYTE 0
+0 GetError
+0 TexSubImage2D TEXTURE_2D 0 0 0 257 0 RGBA UNSIGNED_BYTE 0
+0 GetError
+0 TexSubImage2D TEXTURE_2D 0 0 0 0 -1 RGBA UNSIGNED_BYTE 0
+0 GetError
+0 TexSubImage2D TEXTURE_2D 0 0 0 0 0 RGBA UNSIGNED_BYTE 0
+0 GetError
+0 TexImage2D TEXTURE_2D 0 RGB 2 1 0 RGB UNSIGNED_BYTE 0
+0 TexSubImage2D TEXTURE_2D 0 0 0 3 1 RGBA UNSIGNED_BYTE 0
+0 GetError
+0 TexSubImage2D TEXTURE_2D 0 1 0 2 1 RGB UNSIGNED_BYTE 0
+0 GetError
+0 TexSubImage2D TEXTURE_2D 0 3 0 0 0 RGB UNSIGNED_BYTE 0
+0 GetError
+0 TexSubImage2D TEXTURE_2D 0 0 2 0 0 RGB UNSIGNED_BYTE 0
+0 GetError
+0 TexSubImage2D TEXTURE_2D 0 2147483647 0 256 1 RGB UNSIGNED_BYTE 0
+0 GetError
+0 TexSubImage2D TEXTURE_2D 0 2 1 0 0 RGB UNSIGNED_BYTE 0
+0 GetError
+0 TexSubImage2D TEXTURE_2D 0 2 0 0 1 RGB UNSIGNED_BYTE 0
+0 GetError
+0 TexSubImage2D TEXTURE_2D 0 1 0 1 1 RGB UNSIGNED_BYTE 0
+0 GetError
+0 TexSubImage2D TEXTURE_2D 0 2 0 1 1 RGB UNSIGNED_BYTE 0
+0 PopMatrix
+0 GetError
+0 GetError
+end
+~
+glreport 1
+4 0 GetError 1280
+6 0 GetError 1280
+8 0 GetError 1280
+10 0 GetError 1280
+12 0 GetError 1280
+14 0 GetError 1280
+16 0 GetError 1280
+18 0 GetError 1280
+20 0 GetError 1280
+22 0 GetError 1280
+24 0 GetError 1280
+26 0 GetError 1280
+28 0 GetError 1280
+30 0 GetError 1280
+32 0 GetError 1280
+34 0 GetError 1281
+36 0 GetError 1281
+38 0 GetError 1281
+40 0 GetError 1281
+42 0 GetError 1281
+44 0 GetError 1281
+46 0 GetError 1282
+48 0 GetError 1280
+50 0 GetError 1280
+52 0 GetError 1280
+54 0 GetError 1281
+56 0 GetError 1281
+58 0 GetError 1281
+60 0 GetError 1281
+62 0 GetError 1281
+64 0 GetError 1282
+67 0 GetError 1282
+69 0 GetError 1281
+71 0 GetError 1281
+73 0 GetError 1281
+75 0 GetError 1281
+77 0 GetError 0
+79 0 GetError 0
+81 0 GetError 0
+84 0 GetError 1281
+85 0 GetError 0
+$images 1
+end
+~frame-0.ppm 50360a3120310a3235350a000000
+";
