@@ -24,7 +24,7 @@ def definition(path, name):
 
 def calls(path):
     """What the rows of the table of calls say, by name: number, kinds, and whether the call is answered."""
-    row = r"^row_of \(?gl\.(\w+)[^=]*= (does|asks) (\d+) \(codes \"(\w+)\"\) (\[\]|\([^)]*\)) gl\.(\w+)"
+    row = r"^row_of \(?gl\.(\w+)[^=]*=\s+(does|asks) (\d+) \(codes \"(\w+)\"\) (\[\]|\([^)]*\)) gl\.(\w+)"
     found = re.findall(row, path.read_text(), re.M)
     assert all(variant == name == made for variant, _, _, name, _, made in found)
     kinds = {name: re.findall(r"\w+", listed) for _, _, _, name, listed, _ in found}

@@ -106,6 +106,7 @@ EXAMPLE_IMAGES = {
     },
     "settings": {"frame-0": "4 2 " + "000000" * 8},
     "stacks": {"frame-0": "1 1 000000"},
+    "textured": {"frame-0": "128 128 sha256 f98b5ac11b20931ca0ddb247165c5b5ffddbd4b86b486b12211f6842bf94c158"},
     "tracked": {"frame-0": "1 1 000000"},
     "triangle": {"frame-0": "128 128 sha256 466e332292b05f15594ac8c876c57191d453ea3f3e1488b255d0621b097df0d3"},
     "viewport": {"frame-0": "8 4 " + "ffff00" * 32},
