@@ -10,12 +10,21 @@ const ONE: i32 = 65536;
 
 /// s or t over q, 16.16 fixed, rounded down and clamped to 32 bits, and 0 where q isn't above 0 (section 3.5.1, the rounding
 /// and the 0 own). Where q is 1, as it is unless a program sets it, nothing is divided.
+#[inline(always)]
 pub(crate) fn over(number: i32, q: i32) -> i32
     ensures { result ≡ coordinate_of number q }
 {
     if q == ONE {
         return number;
     }
+    divided(number, q)
+}
+
+/// The same, whatever q is.
+#[inline(never)]
+fn divided(number: i32, q: i32) -> i32
+    ensures { result ≡ coordinate_of number q }
+{
     if q <= 0 {
         return 0;
     }
@@ -45,6 +54,7 @@ fn clamped(number: i64) -> i32
 }
 
 /// How far a coordinate comes along a side, in 65,536ths of a texel (section 3.7.7).
+#[inline(always)]
 pub(crate) fn along(coordinate: i32, side: u32) -> i64
     requires { IsSide side }
     ensures value { result ≡ along coordinate side }
@@ -63,6 +73,7 @@ pub(crate) fn past_centre(coordinate: i32, side: u32) -> i64
 }
 
 /// The texel, counted past the ends, in which a number of 65,536ths of a texel lies (section 3.7.7).
+#[inline(always)]
 pub(crate) fn whole(far: i64) -> i32
     requires { unsigned_abs far ≤ 2 ^ 40 }
     ensures value { result ≡ int_div_euclid far (pos 65536) }

@@ -2,6 +2,7 @@
 
 ghost use Rattle.std.specs.Prelude.{◌≡◌, ℕ, List};
 ghost use Rattle.texture_units.specs.Environment.{byte_mix, byte_product, byte_sum, combined};
+ghost use Rattle.texture_units.specs.declared.format.Format.TheVariants.{Rgba};
 ghost use Rattle.texture_units.specs.declared.environment.EnvMode.TheVariants.{Replace, Modulate, Decal, Blend, Add};
 
 use crate::format::Format;
@@ -17,8 +18,27 @@ pub enum EnvMode {
 }
 
 /// A fragment's colour after a unit whose texture, of this format, gave this texel; the constant is the environment's colour.
-/// Each is red, green, blue and alpha, a byte each (section 3.7.12, DECAL of all formats but RGB and RGBA own).
+/// Each is red, green, blue and alpha, a byte each (section 3.7.12, DECAL of all formats but RGB and RGBA own). MODULATE comes
+/// first, since it is what a unit does unless a program says otherwise.
+#[inline(always)]
 pub fn combine(
+    mode: EnvMode,
+    format: Format,
+    fragment: [u8; 4],
+    texel: [u8; 4],
+    constant: [u8; 4],
+) -> [u8; 4]
+    ensures { result ≡ combined mode format fragment texel constant }
+{
+    match mode {
+        EnvMode::Modulate => modulated(format, fragment, texel),
+        _ => combined_by_name(mode, format, fragment, texel, constant),
+    }
+}
+
+/// The same, by the mode's name.
+#[inline(never)]
+fn combined_by_name(
     mode: EnvMode,
     format: Format,
     fragment: [u8; 4],
@@ -48,9 +68,37 @@ fn replaced(format: Format, fragment: [u8; 4], texel: [u8; 4]) -> [u8; 4]
     }
 }
 
-/// MODULATE.
-#[tactic(auto, unfolding(crate::specs::Environment::combined))]
+/// MODULATE. RGBA comes first.
+#[inline(always)]
 fn modulated(format: Format, fragment: [u8; 4], texel: [u8; 4]) -> [u8; 4]
+    ensures { (constant : List ℕ) → result ≡ combined Modulate format fragment texel constant }
+{
+    match format {
+        Format::Rgba => products(fragment, texel),
+        _ => modulated_apart(format, fragment, texel),
+    }
+}
+
+/// The products of the parts of two colours.
+#[inline(always)]
+#[tactic(auto, unfolding(crate::specs::Environment::combined))]
+fn products(fragment: [u8; 4], texel: [u8; 4]) -> [u8; 4]
+    ensures { (constant : List ℕ) → result ≡ combined Modulate Rgba fragment texel constant }
+{
+    let [red, green, blue, alpha] = fragment;
+    let [texel_red, texel_green, texel_blue, texel_alpha] = texel;
+    [
+        byte_product(red, texel_red),
+        byte_product(green, texel_green),
+        byte_product(blue, texel_blue),
+        byte_product(alpha, texel_alpha),
+    ]
+}
+
+/// MODULATE, by the format's name.
+#[inline(never)]
+#[tactic(auto, unfolding(crate::specs::Environment::combined))]
+fn modulated_apart(format: Format, fragment: [u8; 4], texel: [u8; 4]) -> [u8; 4]
     ensures { (constant : List ℕ) → result ≡ combined Modulate format fragment texel constant }
 {
     let [red, green, blue, alpha] = fragment;
@@ -137,6 +185,7 @@ fn added(format: Format, fragment: [u8; 4], texel: [u8; 4]) -> [u8; 4]
 }
 
 /// The product of two bytes that stand for 0 to 1, as such a byte.
+#[inline(always)]
 #[tactic(auto, unfolding(crate::specs::Environment::byte_product))]
 fn byte_product(a: u8, b: u8) -> u8
     ensures { result ≡ byte_product a b }

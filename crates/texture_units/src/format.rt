@@ -15,6 +15,7 @@ pub enum Format {
 
 impl Format {
     /// How many bytes a texel has, 1 to 4 (sections 3.6.2 and 3.7.1).
+    #[inline(always)]
     pub fn size(self) -> u32
         ensures { result ≡ size_of self }
     {
@@ -28,6 +29,7 @@ impl Format {
     }
 
     /// The colour of the texel whose bytes begin at a place among these bytes (sections 3.6.2 and 3.7.1).
+    #[inline(always)]
     #[tactic(auto, unfolding(crate::specs::Format::colour_at))]
     pub(crate) fn colour(self, bytes: &[u8], at: usize) -> [u8; 4]
         requires { at + size_of self ≤ length bytes.now }

@@ -11,6 +11,7 @@ use crate::coordinate::{along, past_centre, whole};
 const TURNS: i32 = 0x2000000;
 
 /// The place on a side of a texel that is counted past the ends, by CLAMP_TO_EDGE or else by REPEAT (section 3.7.6).
+#[inline(always)]
 #[tactic(auto, unfolding(crate::specs::Place::place_of))]
 fn place(clamp: bool, side: u32, texel: i32) -> u32
     requires side { IsSide side }
@@ -26,6 +27,7 @@ fn place(clamp: bool, side: u32, texel: i32) -> u32
 }
 
 /// The place on a side of a texel that is counted past the ends, by CLAMP_TO_EDGE (section 3.7.6).
+#[inline(always)]
 fn clamped_to_edge(side: u32, texel: i32) -> u32
     requires { IsSide side }
     ensures value { result ≡ clamped_to_edge side texel }
@@ -38,6 +40,7 @@ fn clamped_to_edge(side: u32, texel: i32) -> u32
 }
 
 /// The place on a side of a texel that is counted past the ends, by REPEAT (section 3.7.6).
+#[inline(always)]
 fn repeated(side: u32, texel: i32) -> u32
     requires side { IsSide side }
     requires near { unsigned_abs texel ≤ 2 ^ 25 }
@@ -48,6 +51,7 @@ fn repeated(side: u32, texel: i32) -> u32
 }
 
 /// A texel that is counted past the ends, some turns further on.
+#[inline(always)]
 fn above(texel: i32) -> u32
     requires { unsigned_abs texel ≤ 2 ^ 25 }
     ensures { pos result ≡ texel +ℤ pos (2 ^ 25) }
@@ -56,6 +60,7 @@ fn above(texel: i32) -> u32
 }
 
 /// What is left of a number over a side: its lower bits, since a side is a power of two.
+#[inline(always)]
 fn lower_bits(number: u32, side: u32) -> u32
     requires { IsSide side }
     ensures value { result ≡ number % side }
@@ -65,6 +70,7 @@ fn lower_bits(number: u32, side: u32) -> u32
 }
 
 /// NEAREST: the place on a side of the texel in which a coordinate lies (sections 3.7.7 and 3.7.8).
+#[inline(always)]
 pub(crate) fn nearest(clamp: bool, side: u32, coordinate: i32) -> u32
     requires { IsSide side }
     ensures value { result ≡ nearest_of clamp side coordinate }

@@ -62,6 +62,7 @@ impl Texture {
     }
 
     /// The format of the texels.
+    #[inline(always)]
     pub fn format(&self) -> Format
         ensures { result ≡ self.now.format }
     {
@@ -69,6 +70,7 @@ impl Texture {
     }
 
     /// In texels, a power of two up to 256.
+    #[inline(always)]
     pub fn width(&self) -> u32
         ensures value { result ≡ self.now.width }
         ensures side { IsSide result }
@@ -77,6 +79,7 @@ impl Texture {
     }
 
     /// In texels, a power of two up to 256.
+    #[inline(always)]
     pub fn height(&self) -> u32
         ensures value { result ≡ self.now.height }
         ensures side { IsSide result }
@@ -85,6 +88,7 @@ impl Texture {
     }
 
     /// The bytes of the texels, row by row from t = 0 on, each row in rising s.
+    #[inline(always)]
     pub fn bytes(&self) -> &[u8]
         ensures bytes { result.now ≡ self.now.bytes }
         ensures whole { IsTexture self.now }
@@ -93,8 +97,32 @@ impl Texture {
     }
 
     /// The colour of the texel in a column and a row, both counted from 0: red, green, blue and alpha, a byte each (section
-    /// 3.7.1).
+    /// 3.7.1). Those of RGBA are read where they are asked for.
+    #[inline(always)]
     pub fn texel(&self, x: u32, y: u32) -> [u8; 4]
+        requires column { x < self.now.width }
+        requires row { y < self.now.height }
+        ensures { result ≡ texel_at self.now x y }
+    {
+        match self.format() {
+            Format::Rgba => self.texel_here(x, y),
+            _ => self.texel_apart(x, y),
+        }
+    }
+
+    /// The same, apart from the caller.
+    #[inline(never)]
+    fn texel_apart(&self, x: u32, y: u32) -> [u8; 4]
+        requires column { x < self.now.width }
+        requires row { y < self.now.height }
+        ensures { result ≡ texel_at self.now x y }
+    {
+        self.texel_here(x, y)
+    }
+
+    /// The same, within the caller.
+    #[inline(always)]
+    fn texel_here(&self, x: u32, y: u32) -> [u8; 4]
         requires column { x < self.now.width }
         requires row { y < self.now.height }
         ensures { result ≡ texel_at self.now x y }
@@ -104,6 +132,7 @@ impl Texture {
     }
 
     /// The place of the first byte of the texel in a column and a row.
+    #[inline(always)]
     fn first_byte(&self, x: u32, y: u32) -> usize
         requires column { x < self.now.width }
         requires row { y < self.now.height }
@@ -147,6 +176,7 @@ impl Texture {
     }
 
     /// NEAREST: the texel in which a point lies (sections 3.7.7 and 3.7.8).
+    #[inline(always)]
     fn nearest(&self, sampling: &Sampling, s: i32, t: i32) -> [u8; 4]
         ensures { result ≡ nearest self.now sampling.now s t }
     {
@@ -158,6 +188,7 @@ impl Texture {
     }
 
     /// LINEAR: the mean of the four texels round a point (sections 3.7.7 and 3.7.8).
+    #[inline(never)]
     fn linear(&self, sampling: &Sampling, s: i32, t: i32) -> [u8; 4]
         ensures { result ≡ linear self.now sampling.now s t }
     {
@@ -180,6 +211,7 @@ impl Texture {
 
 /// What a texture gives at s, t and q, 16.16 fixed: red, green, blue and alpha, a byte each. It is read at s over q and t over
 /// q, and at 0 where q isn't above 0 (sections 3.5.1 and 3.7.6 to 3.7.8; the arithmetic own).
+#[inline(always)]
 pub fn sample(texture: &Texture, sampling: &Sampling, s: i32, t: i32, q: i32) -> [u8; 4]
     ensures { result ≡ sampled texture.now sampling.now s t q }
 {

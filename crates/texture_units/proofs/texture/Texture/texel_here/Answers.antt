@@ -2,7 +2,7 @@ use Rattle.std.proofs.Common.{◌≡◌, ℕ, List, length, ap, ◌∙◌, arith
 use Rattle.texture_units.specs.declared.format.Format.{Format}
 use Rattle.texture_units.specs.Format.{colour_at, size_of}
 use Rattle.texture_units.specs.Texture.{texel_at}
-use Rattle.texture_units.proofs.texture.Texture.texel.Goals as goal
+use Rattle.texture_units.proofs.texture.Texture.texel_here.Goals as goal
 
 pub colour-requires : goal.colour-requires
 colour-requires c =
