@@ -1,5 +1,5 @@
 -- Products that rise with a factor, and quotients that are rounded down.
-use Rattle.std.proofs.Common.{◌≡◌, ℤ, pos, negsuc, ◌+ℤ◌, ◌-ℤ◌, ◌*ℤ◌, ◌<ℤ◌, ◌≤ℤ◌, arith}
+use Rattle.std.proofs.Common.{◌≡◌, ℤ, pos, negsuc, ◌+ℤ◌, ◌-ℤ◌, ◌*ℤ◌, ◌<ℤ◌, ◌≤ℤ◌, sym, arith}
 use Rattle.std.specs.Int.{int_div_euclid}
 use Rattle.std.proofs.lemmas.Int.{ints, by_lt_z}
 use Rattle.std.proofs.lemmas.Nat.{div-add-mod', mod_below}
@@ -45,3 +45,8 @@ quotient_is s t q h low high =
     let below : int_div_euclid s t ≤ℤ q = lesser_factor t (int_div_euclid s t) q h (omega (arith, ints)) in
     let above : q ≤ℤ int_div_euclid s t = lesser_factor t q (int_div_euclid s t) h (omega (arith, ints)) in
     omega (arith, ints)
+
+-- a number that leaves from zero to below the whole is the quotient, however it was guessed
+pub guessed : (sum whole guess product left : ℤ) → pos 0 <ℤ whole → product ≡ whole *ℤ guess → left ≡ sum -ℤ product → pos 0 ≤ℤ left → left <ℤ whole → guess ≡ int_div_euclid sum whole
+guessed sum whole guess product left some e is low high =
+    sym (quotient_is sum whole guess some (omega (arith, ints)) (omega (arith, ints)))

@@ -7,4 +7,5 @@ pub mod Carry
 pub mod Held
 pub mod Inside
 pub mod Shaded
+pub mod Nearby
 pub mod InsideShaded

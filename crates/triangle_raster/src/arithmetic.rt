@@ -1,7 +1,7 @@
 //! Products and sums that are proved to fit.
 //! No clause asks for more room than the largest triangle needs.
 
-ghost use Rattle.std.specs.Prelude.{ℕ, ◌≡◌, ◌+◌, ◌*◌, ◌^◌, ◌+ℤ◌, ◌*ℤ◌, ◌<ℤ◌, ◌&&◌, pos};
+ghost use Rattle.std.specs.Prelude.{ℕ, ◌≡◌, ◌≤◌, ◌+◌, ◌*◌, ◌^◌, ◌+ℤ◌, ◌*ℤ◌, ◌<ℤ◌, ◌≤ℤ◌, ◌&&◌, pos};
 ghost use Rattle.std.specs.Int.{int_div_euclid};
 ghost use Rattle.triangle_raster.specs.Vertex.{IsWithin};
 
@@ -87,6 +87,35 @@ pub fn quotient(sum: i128, whole: i128) -> i128
     ensures { result ≡ int_div_euclid sum whole }
 {
     sum.div_euclid(whole)
+}
+
+/// A sum over the whole as a guess by their upper bits, 0 to 65535.
+fn guess(sum: i128, whole: i128) -> u32
+    ensures { result ≤ 65535 }
+{
+    let shift = 97u32.saturating_sub(whole.leading_zeros());
+    let (upper, short) = (sum >> shift, whole >> shift);
+    if upper < 0 || 4611686018427387904 < upper || short < 1 || 4611686018427387904 < short {
+        return 0;
+    }
+    let guess = upper as u64 / short as u64;
+    guess.min(65535) as u32
+}
+
+/// A sum over the whole, rounded down, which mostly is 0 to 65535: it is guessed, and what is left tells whether the guess is right.
+pub fn short_quotient(sum: i128, whole: i128) -> i128
+    requires some { pos 0 <ℤ whole }
+    requires few { whole ≤ℤ pos (2 ^ 111) }
+    requires not_negative { pos 0 ≤ℤ sum }
+    ensures { result ≡ int_div_euclid sum whole }
+{
+    let guess = i128::from(guess(sum, whole));
+    let left = sum - whole * guess;
+    if 0 <= left && left < whole {
+        guess
+    } else {
+        quotient(sum, whole)
+    }
 }
 
 /// Whether all three are true.

@@ -4,8 +4,10 @@ ghost use Rattle.std.specs.Prelude.{◌≡◌, ◌^◌, ◌+ℤ◌, ◌<ℤ◌, 
 ghost use Rattle.triangle_raster.specs.Vertex.{AreCorners, IsWithin};
 ghost use Rattle.triangle_raster.specs.Pixel.{depth_of, is_kept, kept_fragment, means};
 ghost use Rattle.triangle_raster.specs.Held.{depth_at, even_depth, sums_seen, AreNearSums, AreNotNegative};
+ghost use Rattle.triangle_raster.specs.Nearby.{near_seen, AreSmallSums};
 
-use crate::arithmetic::{all_of, quotient, small_quotient};
+use crate::arithmetic::{all_of, short_quotient, small_quotient};
+use crate::near::Near;
 use crate::sums::Sums;
 use crate::vertex::Vertex;
 
@@ -45,11 +47,42 @@ fn depth(z: i128, w: i128) -> u16
     requires to_far { z ≤ℤ w }
     ensures { result ≡ depth_of z w }
 {
-    quotient((z + w) * 65535, 2 * w) as u16
+    short_quotient((z + w) * 65535, 2 * w) as u16
 }
 
 /// The means of the ten values of three corners.
 fn values(a: &[i32; 10], b: &[i32; 10], c: &[i32; 10], sums: &Sums) -> [i32; 10]
+    requires a { All (IsWithin (2 ^ 27)) a.now }
+    requires b { All (IsWithin (2 ^ 27)) b.now }
+    requires c { All (IsWithin (2 ^ 27)) c.now }
+    requires sums { AreNearSums sums.now }
+    requires not_negative { AreNotNegative sums.now }
+    requires some { pos 0 <ℤ (sums.now.one +ℤ sums.now.two +ℤ sums.now.three) }
+    ensures { result ≡ means (sums_seen sums.now) a.now b.now c.now }
+{
+    match Near::of_sums(sums) {
+        Some(near) => near_values(a, b, c, &near),
+        None => far_values(a, b, c, sums),
+    }
+}
+
+/// The same by weights of 64 bits.
+fn near_values(a: &[i32; 10], b: &[i32; 10], c: &[i32; 10], near: &Near) -> [i32; 10]
+    requires a { All (IsWithin (2 ^ 27)) a.now }
+    requires b { All (IsWithin (2 ^ 27)) b.now }
+    requires c { All (IsWithin (2 ^ 27)) c.now }
+    requires sums { AreSmallSums near.now }
+    ensures { result ≡ means (near_seen near.now) a.now b.now c.now }
+{
+    let mut values = [0; 10];
+    for k in 0..10 {
+        values[k] = near.mean(a[k], b[k], c[k]);
+    }
+    values
+}
+
+/// The same by weights of 128 bits.
+fn far_values(a: &[i32; 10], b: &[i32; 10], c: &[i32; 10], sums: &Sums) -> [i32; 10]
     requires a { All (IsWithin (2 ^ 27)) a.now }
     requires b { All (IsWithin (2 ^ 27)) b.now }
     requires c { All (IsWithin (2 ^ 27)) c.now }

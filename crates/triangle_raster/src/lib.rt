@@ -8,6 +8,7 @@ mod edge;
 mod extent;
 mod fragment;
 pub mod laws;
+mod near;
 pub mod plain;
 mod rates;
 mod row;

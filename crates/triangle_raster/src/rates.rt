@@ -9,7 +9,7 @@ use crate::steps::Steps;
 use crate::sums::are_same;
 use crate::vertex::Vertex;
 
-/// Whether the depth is the same in every column of a row, and how many of the ten values, none, the first four or all,
+/// Whether the depth is the same in every column of a row, and how many of the ten values, none, the first 4, 6, 7 or all,
 /// aren't known to be the same at the three corners. Where depth and values are carried, their steps.
 #[derive(Clone, Copy)]
 pub struct Rates {
@@ -33,7 +33,7 @@ fn are_same_from(start: usize, a: &[i32; 10], b: &[i32; 10], c: &[i32; 10]) -> b
     true
 }
 
-/// How many of the values, none, the first four or all, aren't known to be the same at the three corners.
+/// How many of the values, none, the first 4, 6, 7 or all, aren't known to be the same at the three corners.
 fn moving_of(corners: &[Vertex; 3]) -> usize
     ensures ten { HaveTenValues corners.now }
     ensures same { AreSameFrom corners.now result }
@@ -42,8 +42,12 @@ fn moving_of(corners: &[Vertex; 3]) -> usize
     let a = &corners[0].values;
     let b = &corners[1].values;
     let c = &corners[2].values;
-    if !are_same_from(4, a, b, c) {
+    if !are_same_from(7, a, b, c) {
         10
+    } else if !are_same_from(6, a, b, c) {
+        7
+    } else if !are_same_from(4, a, b, c) {
+        6
     } else if !are_same_from(0, a, b, c) {
         4
     } else {

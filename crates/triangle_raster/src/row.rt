@@ -83,10 +83,10 @@ impl Row {
         }
     }
 
-    /// The fragments that are left, one after the other without a search for each, where depth and the first four values are
-    /// carried; None where they aren't, or more values are. Own.
+    /// The fragments that are left, one after the other without a search for each, where depth and the first N values are
+    /// carried; None where they aren't, or where it isn't N that are. Own.
     #[inline(always)]
-    pub fn shaded(&self) -> Option<Shaded>
+    pub fn shaded<const N: usize>(&self) -> Option<Shaded<N>>
         ensures { IfSome result (λ shaded. shaded ≡ self.now) }
     {
         Shaded::of_walk(&self.walk)

@@ -6,7 +6,7 @@ ghost use Rattle.triangle_raster.specs.Vertex.{IsFromTo};
 ghost use Rattle.triangle_raster.specs.Held.{alike_at, depth_at, spot_at, walk_seen, weights_here, AreColumns, AreNearSums, AreRates, AreSumsAt, IsReadied, IsShape, IsWalk};
 ghost use Rattle.triangle_raster.specs.Pixel.{pixel_of};
 ghost use Rattle.triangle_raster.specs.Row.{numbers_from, pixels_at, run_of};
-ghost use Rattle.triangle_raster.specs.Shaded.{CarriesFour};
+ghost use Rattle.triangle_raster.specs.Shaded.{CarriesFirst};
 
 use crate::carry::{Carries, LongCarry};
 use crate::columns::Columns;
@@ -181,32 +181,32 @@ impl Walk {
         self.left -= 1;
     }
 
-    /// Makes it ready for the column after the next one, if there is one, where depth and four values are carried.
+    /// Makes it ready for the column after the next one, if there is one, where depth and so many values are carried.
     #[inline(always)]
-    fn ready_four(&mut self)
+    fn ready_first(&mut self, moving: usize)
         requires holds { IsWalk self.old }
         requires some { 0 < self.old.left }
-        requires four { CarriesFour self.old.rates }
+        requires first { CarriesFirst moving self.old.rates }
         ensures { IsReadied self.old self.new }
     {
         if self.left > 1 {
-            self.carry(4);
+            self.carry(moving);
         }
     }
 
-    /// Leaves the next column behind, where depth and four values are carried.
+    /// Leaves the next column behind, where depth and so many values are carried.
     #[inline(always)]
-    pub fn step_four(&mut self)
+    pub fn step_first(&mut self, moving: usize)
         requires holds { IsWalk self.old }
         requires some { 0 < self.old.left }
-        requires four { CarriesFour self.old.rates }
+        requires first { CarriesFirst moving self.old.rates }
         ensures holds { IsWalk self.new }
-        ensures four { CarriesFour self.new.rates }
+        ensures first { CarriesFirst moving self.new.rates }
         ensures seen { walk_seen self.old ≡ cons_option
             (pixel_of self.old.shape.corners self.old.shape.view self.old.x self.old.y)
             (walk_seen self.new) }
     {
-        self.ready_four();
+        self.ready_first(moving);
         self.x += 1;
         self.left -= 1;
     }

@@ -1,7 +1,7 @@
 use Rattle.std.proofs.Common.{◌≡◌, ℕ, ◌<◌, pos, length, get_or}
 use Rattle.triangle_raster.specs.Pixel.{mean}
 use Rattle.triangle_raster.specs.Held.{sums_seen}
-use Rattle.triangle_raster.proofs.fragment.values.Given as goal
+use Rattle.triangle_raster.proofs.fragment.far_values.Given as goal
 
 abbrev pub invariant-loop-k : goal.invariant-loop-k
 invariant-loop-k l = record {

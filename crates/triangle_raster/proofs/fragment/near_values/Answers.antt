@@ -1,9 +1,9 @@
 use Rattle.std.proofs.Common.{◌≡◌, ◌≢◌, ◌<◌, ◌∙◌, pos, length, rules, arith, lit<, get_or-set_other, length-set, get_or-set_same, below_more}
-use Rattle.triangle_raster.specs.Held.{sums_seen}
+use Rattle.triangle_raster.specs.Nearby.{near_seen}
 use Rattle.triangle_raster.proofs.Bounds.{as_32, kept_32}
 use Rattle.triangle_raster.proofs.Means.{means_from_each}
 use Rattle.triangle_raster.proofs.Fragments.{mean_kept}
-use Rattle.triangle_raster.proofs.fragment.values.Goals as goal
+use Rattle.triangle_raster.proofs.fragment.near_values.Goals as goal
 
 pub mean-requires-clause-a : goal.mean-requires-clause-a
 mean-requires-clause-a c =
@@ -32,7 +32,7 @@ loop-k-preserved c =
           (λ k h. let other : k ≢ c.loop-k.k = omega arith in rw get_or-set_other (c.loop-k.invariant.so_far k h))
           (rw get_or-set_same
           (kept_32 c.mean.ensures.near (lit< tt) ∙ c.mean.ensures.value
-          ∙ mean_kept (sums_seen c.args.sums.now)
+          ∙ mean_kept (near_seen c.args.near.now)
           (kept_32 (c.requires.a c.loop-k.k (pos 0) inside_a) (lit< tt))
           (kept_32 (c.requires.b c.loop-k.k (pos 0) inside_b) (lit< tt))
           (kept_32 (c.requires.c c.loop-k.k (pos 0) inside_c) (lit< tt))));
@@ -43,5 +43,5 @@ returns c =
     let size_a : length c.args.a.now ≡ length c.loop-k.values = omega arith in
     let size_b : length c.args.b.now ≡ length c.loop-k.values = omega arith in
     let size_c : length c.args.c.now ≡ length c.loop-k.values = omega arith in
-    means_from_each (sums_seen c.args.sums.now) c.args.a.now c.args.b.now c.args.c.now c.loop-k.values size_a size_b size_c
+    means_from_each (near_seen c.args.near.now) c.args.a.now c.args.b.now c.args.c.now c.loop-k.values size_a size_b size_c
     (λ k h. let below : k < c.loop-k.k = omega arith in c.loop-k.invariant.so_far k below)
