@@ -124,7 +124,7 @@ impl<'a> Drawing<'a> {
     /// Puts the fragments of a row whose depth and colours are carried, where no unit takes part. What stays the same in each is
     /// taken out of memory once.
     #[inline(never)]
-    fn put_shaded(&self, row: Shaded, frame: &mut Frame)
+    fn put_shaded(&self, row: Shaded<4>, frame: &mut Frame)
         requires drawing { IsDrawing self.now }
         requires plain { IsPlain self.now }
         requires shades { All (λ f. AreWithinOne f.values) row }

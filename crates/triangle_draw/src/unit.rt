@@ -1,10 +1,11 @@
 //! A texture unit that takes part in a draw, and what it makes of a fragment's colour.
 
-ghost use Rattle.std.specs.Prelude.{◌≡◌, ◌≤◌};
+ghost use Rattle.std.specs.Prelude.{◌≡◌, ◌≤◌, Some, true};
+ghost use Rattle.triangle_draw.specs.Fragments.{IsMultiplier};
 ghost use Rattle.triangle_draw.specs.Triangle.{colour_after_unit};
 
 use std::marker::Model;
-use texture_units::{EnvMode, Sampling, Texture, combine, sample};
+use texture_units::{EnvMode, Format, Sampling, Texture, combine, sample};
 use triangle_raster::Fragment;
 
 /// A texture unit that takes part in a draw: what it reads, and how a texel changes a fragment's colour (section 3.7.12). Where
@@ -60,5 +61,57 @@ pub(crate) fn colour_after_unit(
             )
         }
         None => colour,
+    }
+}
+
+impl<'a> Unit<'a> {
+    /// Whether it multiplies a colour by one texel of RGBA.
+    pub(crate) fn is_multiplier(&self) -> bool
+        ensures { result ≡ true → IsMultiplier self.now }
+    {
+        if self.sampling.linear {
+            return false;
+        }
+        match self.mode {
+            EnvMode::Modulate => match self.texture.format() {
+                Format::Rgba => true,
+                _ => false,
+            },
+            _ => false,
+        }
+    }
+
+    /// How it reads, which is known to be NEAREST.
+    #[inline(always)]
+    fn nearest(&self) -> Sampling
+        requires { IsMultiplier self.now }
+        ensures { result ≡ self.now.sampling }
+    {
+        Sampling {
+            min: self.sampling.min,
+            linear: false,
+            clamp_s: self.sampling.clamp_s,
+            clamp_t: self.sampling.clamp_t,
+        }
+    }
+
+    /// A colour multiplied by the texel that is read at the fragment's values from 4 on. What is known is asked for by its name, so
+    /// that nothing is chosen here.
+    #[inline(always)]
+    #[tactic(auto, unfolding(crate::specs::Triangle::texel_of))]
+    pub(crate) fn multiplied(&self, fragment: &Fragment, colour: [u8; 4]) -> [u8; 4]
+        requires { IsMultiplier self.now }
+        ensures { result ≡ colour_after_unit (Some self.now) fragment.now 4 colour }
+    {
+        let values = &fragment.values;
+        let sampling = self.nearest();
+        let texel = sample(self.texture, &sampling, values[4], values[5], values[6]);
+        combine(
+            EnvMode::Modulate,
+            Format::Rgba,
+            colour,
+            texel,
+            self.constant,
+        )
     }
 }
