@@ -103,8 +103,8 @@ def check_counts():
             sums = json.loads(run("counts", "--json", "--batch", size, str(script)).stdout)
             wants(script.stem, tuple(sums[key] for key in ("deferred", "synchronised", "answered", "batches")), wanted)
             lines = run("trace", "--batch", size, str(script)).stdout.decode().splitlines()
-            forms = (": .*put off into", ": .*waits because", ": .*answered by the shadow", r"  batch \d+ ends ")
-            wants(script.stem, tuple(sum(bool(re.match(form, line)) for line in lines) for form in forms), wanted)
+            forms = (": .*put off into", ": .*waits because", ": .*answered by the shadow", r"^  batch \d+ ends ")
+            wants(script.stem, tuple(sum(bool(re.search(form, line)) for line in lines) for form in forms), wanted)
 
 
 def strings(path, name):
