@@ -4,10 +4,13 @@ use crate::entry::{Entry, Recorded};
 use crate::error_numbers::error_numbered;
 use crate::fate::{BatchEnd, Cause, Fate, Why};
 use crate::names::NumberNames;
-use crate::spelled::{SpelledCall, error_name, write_count};
+use crate::spelled::{append_call, error_name, write_count};
 use gl_words::Call;
+use itoa::Buffer;
 use replay_lines::Printed;
+use std::alloc::AllocError as NoMemory;
 use std::fmt;
+use std::fmt::Write;
 
 impl Cause {
     /// The cause in words, without numbers; own.
@@ -31,16 +34,6 @@ impl Cause {
     }
 }
 
-impl fmt::Display for Cause {
-    fn fmt<W: fmt::Write>(&self, f: &mut fmt::Formatter<W>) -> fmt::Result {
-        f.write_str(self.reason())?;
-        match self {
-            Cause::TooLong { slots } => write!(f, " ({slots} slots)"),
-            Cause::Asks | Cause::Finishes | Cause::ReadsAll => Ok(()),
-        }
-    }
-}
-
 impl fmt::Display for Why {
     fn fmt<W: fmt::Write>(&self, f: &mut fmt::Formatter<W>) -> fmt::Result {
         f.write_str(match self {
@@ -52,19 +45,6 @@ impl fmt::Display for Why {
     }
 }
 
-impl fmt::Display for Recorded {
-    fn fmt<W: fmt::Write>(&self, f: &mut fmt::Formatter<W>) -> fmt::Result {
-        let error = error_name(self.error);
-        match self.before {
-            None => write!(f, "{error}"),
-            Some(before) => {
-                let before = error_name(before);
-                write!(f, "{error}, but {before} is recorded already")
-            }
-        }
-    }
-}
-
 /// An entry beside the size of batches in slots, as a line without its end; own.
 #[derive(Clone, Copy)]
 pub struct EntryLine<'a> {
@@ -73,21 +53,22 @@ pub struct EntryLine<'a> {
     pub size: u32,
 }
 
-impl fmt::Display for EntryLine<'_> {
-    fn fmt<W: fmt::Write>(&self, f: &mut fmt::Formatter<W>) -> fmt::Result {
+impl EntryLine<'_> {
+    /// Appends the line. NoMemory may leave some of it; own.
+    pub fn append_to(&self, text: &mut String) -> Result<(), NoMemory> {
         let entry = self.entry;
-        let line = entry.line;
-        let context = entry.context;
-        let call = SpelledCall {
-            call: &entry.call,
-            names: self.names,
-        };
-        write!(f, "{line} {context} {call}: ")?;
-        write_reply(f, &entry.call, &entry.reply)?;
+        let mut digits = Buffer::new();
+        text.push_str(digits.format(entry.line))?;
+        text.push_str(" ")?;
+        text.push_str(digits.format(entry.context))?;
+        text.push_str(" ")?;
+        append_call(text, &entry.call, self.names)?;
+        text.push_str(": ")?;
+        append_reply(text, &entry.call, &entry.reply)?;
         if let Some(error) = entry.error {
-            write!(f, "{error}; ")?;
+            append_error(text, error)?;
         }
-        write_fate(f, entry.fate, self.size)
+        append_fate(text, entry.fate, self.size)
     }
 }
 
@@ -113,42 +94,64 @@ impl fmt::Display for EndLine {
     }
 }
 
-/// What becomes of a call, with batches of so many slots.
-fn write_fate<W: fmt::Write>(f: &mut fmt::Formatter<W>, fate: Fate, size: u32) -> fmt::Result {
+/// Appends an error, and the one that is recorded already.
+fn append_error(text: &mut String, error: Recorded) -> Result<(), NoMemory> {
+    text.push_str(error_name(error.error))?;
+    if let Some(before) = error.before {
+        text.push_str(", but ")?;
+        text.push_str(error_name(before))?;
+        text.push_str(" is recorded already")?;
+    }
+    text.push_str("; ")
+}
+
+/// Appends what becomes of a call, with batches of so many slots.
+fn append_fate(text: &mut String, fate: Fate, size: u32) -> Result<(), NoMemory> {
     match fate {
-        Fate::Answered => f.write_str("answered by the shadow"),
-        Fate::Waits(cause) => write!(f, "waits because {cause}"),
+        Fate::Answered => text.push_str("answered by the shadow"),
+        Fate::Waits(cause) => append_cause(text, cause),
         Fate::PutOff { batch, slots } => {
-            write!(f, "put off into batch {batch} (slots {slots} of {size})")
+            let mut digits = Buffer::new();
+            text.push_str("put off into batch ")?;
+            text.push_str(digits.format(batch))?;
+            text.push_str(" (slots ")?;
+            text.push_str(digits.format(slots))?;
+            text.push_str(" of ")?;
+            text.push_str(digits.format(size))?;
+            text.push_str(")")
         }
     }
 }
 
-/// What a call replied, where it replied something: GetError by the name of an error.
-fn write_reply<W: fmt::Write>(
-    f: &mut fmt::Formatter<W>,
-    call: &Call,
-    reply: &Printed,
-) -> fmt::Result {
+/// Appends why a call waits.
+fn append_cause(text: &mut String, cause: Cause) -> Result<(), NoMemory> {
+    text.push_str("waits because ")?;
+    text.push_str(cause.reason())?;
+    match cause {
+        Cause::TooLong { slots } => write!(text, " ({slots} slots)"),
+        Cause::Asks | Cause::Finishes | Cause::ReadsAll => Ok(()),
+    }
+}
+
+/// Appends what a call replied, where it replied something: GetError by the name of an error.
+fn append_reply(text: &mut String, call: &Call, reply: &Printed) -> Result<(), NoMemory> {
     match reply {
         Printed::Nothing => Ok(()),
-        Printed::One(number) => {
-            match (call, error_numbered(number)) {
-                (Call::GetError, Some(error)) => {
-                    let name = error_name(error);
-                    write!(f, "replied {name}; ")
-                }
-                (Call::GetError, None) => f.write_str("replied NO_ERROR; "),
-                (Call::ReadPixels { .. }, _) => write!(f, "replied {number} bytes; "),
-                _ => write!(f, "replied {number}; "),
+        Printed::One(number) => match (call, error_numbered(number)) {
+            (Call::GetError, Some(error)) => {
+                let name = error_name(error);
+                write!(text, "replied {name}; ")
             }
-        }
+            (Call::GetError, None) => text.push_str("replied NO_ERROR; "),
+            (Call::ReadPixels { .. }, _) => write!(text, "replied {number} bytes; "),
+            _ => write!(text, "replied {number}; "),
+        },
         Printed::Many(numbers) => {
-            f.write_str("replied")?;
+            text.push_str("replied")?;
             for number in numbers.as_slice() {
-                write!(f, " {number}")?;
+                write!(text, " {number}")?;
             }
-            f.write_str("; ")
+            text.push_str("; ")
         }
     }
 }

@@ -21,7 +21,7 @@ pub use entry::{Entry, Recorded};
 pub use entry_text::{EndLine, EntryLine};
 pub use fate::{BatchEnd, Cause, Fate, Why};
 pub use names::NumberNames;
-pub use spelled::{SpelledCall, error_name, write_count};
+pub use spelled::{error_name, write_count};
 pub use sums::{Errors, Sums, Waits, sums_of};
 pub use sums_text::SumsText;
 pub use trace::Trace;

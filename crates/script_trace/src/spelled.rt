@@ -3,14 +3,10 @@
 
 use crate::names::NumberNames;
 use gl_words::{ArgKind, Call, GlError, arguments_of, row_of};
+use itoa::Buffer;
+use std::alloc::AllocError as NoMemory;
 use std::fmt;
-
-/// A call that is printed with names; own.
-#[derive(Clone, Copy)]
-pub struct SpelledCall<'a> {
-    pub call: &'a Call,
-    pub names: &'a NumberNames,
-}
+use std::fmt::Write;
 
 /// The name of an error, with the prefix left out (section 2.5); own.
 pub fn error_name(error: GlError) -> &'static str {
@@ -37,31 +33,60 @@ pub fn write_count<W: fmt::Write>(
 /// The bits of the depth, the stencil and the colour buffer in the mask of Clear (section 4.2.3).
 const BITS: [u32; 3] = [0x0100, 0x0400, 0x4000];
 
-impl fmt::Display for SpelledCall<'_> {
-    fn fmt<W: fmt::Write>(&self, f: &mut fmt::Formatter<W>) -> fmt::Result {
-        let call = self.call;
-        let row = row_of(call);
-        f.write_str(row.name)?;
-        if let Call::Clear { mask } = call {
-            f.write_str(" ")?;
-            return write_bits(f, *mask, self.names);
+/// Appends a call. NoMemory may leave some of it.
+pub(crate) fn append_call(
+    text: &mut String,
+    call: &Call,
+    names: &NumberNames,
+) -> Result<(), NoMemory> {
+    let row = row_of(call);
+    text.push_str(row.name)?;
+    if let Call::Clear { mask } = call {
+        text.push_str(" ")?;
+        return append_bits(text, *mask, names);
+    }
+    let arguments = arguments_of(call);
+    let signed = signed_enumerant(call);
+    let mut digits = Buffer::new();
+    for at in 0..row.kinds.len() {
+        let (Some(kind), Some(number)) = (row.kinds.get(at), arguments.as_slice().get(at)) else {
+            break;
+        };
+        text.push_str(" ")?;
+        if matches!(kind, ArgKind::Enum) {
+            append_enumerant(text, row.name, *number, names)?;
+        } else if signed == Some(at) {
+            append_signed(text, row.name, *number, names)?;
+        } else {
+            text.push_str(digits.format(*number))?;
         }
-        let arguments = arguments_of(call);
-        let signed = signed_enumerant(call);
-        for at in 0..row.kinds.len() {
-            let (Some(kind), Some(number)) = (row.kinds.get(at), arguments.as_slice().get(at))
-            else {
-                break;
-            };
-            f.write_str(" ")?;
-            let named = matches!(kind, ArgKind::Enum) || signed == Some(at);
-            match (kind, self.names.name_for(row.name, *number)) {
-                (_, Some(name)) if named => f.write_str(name)?,
-                (ArgKind::Enum, None) => write!(f, "{number:#06x}")?,
-                _ => write!(f, "{number}")?,
-            }
-        }
-        Ok(())
+    }
+    Ok(())
+}
+
+/// Appends the name of an enumerant, or else its number in hexadecimal digits.
+fn append_enumerant(
+    text: &mut String,
+    call: &str,
+    number: i64,
+    names: &NumberNames,
+) -> Result<(), NoMemory> {
+    match names.name_for(call, number) {
+        Some(name) => text.push_str(name),
+        None => write!(text, "{number:#06x}"),
+    }
+}
+
+/// Appends the name of an enumerant that is a signed number, or else the number.
+fn append_signed(
+    text: &mut String,
+    call: &str,
+    number: i64,
+    names: &NumberNames,
+) -> Result<(), NoMemory> {
+    match names.name_for(call, number) {
+        Some(name) => text.push_str(name),
+        None => write!(text, "{number}"),
     }
 }
 
@@ -73,27 +98,23 @@ fn signed_enumerant(call: &Call) -> Option<usize> {
     }
 }
 
-/// Writes the bits of Clear by their names, and what is left over as a number.
-fn write_bits<W: fmt::Write>(
-    f: &mut fmt::Formatter<W>,
-    mask: u32,
-    names: &NumberNames,
-) -> fmt::Result {
+/// Appends the bits of Clear by their names, and what is left over as a number.
+fn append_bits(text: &mut String, mask: u32, names: &NumberNames) -> Result<(), NoMemory> {
     let mut left = mask;
     let mut between = "";
     for bit in BITS {
         if left & bit != 0 {
             if let Some(name) = names.name_for("Clear", i64::from(bit)) {
-                f.write_str(between)?;
-                f.write_str(name)?;
+                text.push_str(between)?;
+                text.push_str(name)?;
                 between = "|";
                 left &= !bit;
             }
         }
     }
     if left != 0 || mask == 0 {
-        f.write_str(between)?;
-        write!(f, "{left:#x}")?;
+        text.push_str(between)?;
+        write!(text, "{left:#x}")?;
     }
     Ok(())
 }

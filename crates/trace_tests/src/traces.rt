@@ -226,7 +226,8 @@ fn trace_text<T: Threads + Sync>(rt: &T, alloc: Global, script: &str) -> Result<
             names: &names,
             size: SIZE,
         };
-        writeln!(text, "{line}")?;
+        line.append_to(&mut text)?;
+        text.push_str("\n")?;
         if let Some(end) = entry.sent {
             let line = EndLine { end, size: SIZE };
             writeln!(text, "{line}")?;
