@@ -2,6 +2,7 @@
 
 use crate::stop::Stop;
 use gl_outside::{Sink, write_all};
+use script_trace::EntryLine;
 use std::alloc::Global;
 use std::fmt::{Display, Write};
 
@@ -26,6 +27,18 @@ impl<K: Sink> Page<K> {
     /// Adds a line.
     pub fn line<D: Display>(&mut self, line: &D) -> Result<(), Stop> {
         writeln!(self.text, "{line}")?;
+        self.send_full()
+    }
+
+    /// Adds the line of an entry.
+    pub fn entry(&mut self, line: &EntryLine<'_>) -> Result<(), Stop> {
+        line.append_to(&mut self.text)?;
+        self.text.push_str("\n")?;
+        self.send_full()
+    }
+
+    /// Writes the lines where they are many.
+    fn send_full(&mut self) -> Result<(), Stop> {
         if self.text.len() >= FULL {
             self.send()?;
         }

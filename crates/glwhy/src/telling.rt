@@ -155,7 +155,7 @@ fn tell_entries<T: Threads + Sync, K: Sink>(
             page.line(&EndLine { end, size })?;
         }
         if is_listed(only, &entry) {
-            page.line(&EntryLine {
+            page.entry(&EntryLine {
                 entry: &entry,
                 names,
                 size,
