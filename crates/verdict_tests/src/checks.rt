@@ -3,6 +3,7 @@
 
 use script_verdict::{Verdict, VerdictText, explain};
 use std::alloc::{AllocError as NoMemory, Global};
+use std::process::Abort;
 use std::test::Fail;
 
 /// A script, and what is told of it.
@@ -230,6 +231,26 @@ static ROWS: [(&str, &str); 56] = [
     ),
 ];
 
+/// The same of words of C, tabs, and a line of which a part is shown.
+static MORE_ROWS: [(&str, &str); 4] = [
+    (
+        "$0 DepthMask FALSE\nend\n",
+        "a.gls:3:13: BadNumber: 'FALSE' is no number and no known name\n  |\n3 | 0 DepthMask FALSE\n  |             ^^^^^ expected argument 1 of DepthMask, a truth value: 0, or 1 to 255\n  = hint: false is written as 0",
+    ),
+    (
+        "$0 VertexPointer 3 FIXED 0 NULL\nend\n",
+        "a.gls:3:27: BadNumber: 'NULL' is no number and no known name\n  |\n3 | 0 VertexPointer 3 FIXED 0 NULL\n  |                           ^^^^ expected argument 4 of VertexPointer, an address in client memory, from 0 to 4294967295\n  = hint: no address is written as 0",
+    ),
+    (
+        "$0\tClear\t\tGL_X\nend\n",
+        "a.gls:3:10: BadNumber: 'GL_X' is no number and no known name\n  |\n3 | 0 Clear  GL_X\n  |          ^^^^ expected argument 1 of Clear, an unsigned number, from 0 to 4294967295\n  = hint: an enumerant without a name here is written as its number in the header GLES/gl.h",
+    ),
+    (
+        "$0 mem 0 abababababababababababababababababababababababababababababababababababababababababababababababababababababababababababab x\nend\n",
+        "a.gls:3:130: WrongCount: a mem line has 4 words, and 5 stand here\n  |\n3 | ...bababababababababababababababababababababababababababababababababababababababab x\n  |                                                                                    ^ expected 0 mem ADDR HEX",
+    ),
+];
+
 /// The two lines for which `$` stands.
 const HEAD: &str = "glscript 1\ncontext 0 4 4 64\n";
 
@@ -248,11 +269,11 @@ fn text_of(alloc: Global, verdict: &Verdict<'_>) -> Result<String, NoMemory> {
     format!(in alloc; "{text}")
 }
 
-#[test]
-fn each_verdict_is_told_with_its_place_and_its_hints(rt: HostRuntime) -> Result<(), Fail> {
-    for pair in ROWS.iter() {
+/// Compares what is told of each script with its text.
+fn are_told(rt: &impl Abort, alloc: Global, rows: &[(&str, &str)]) -> Result<(), Fail> {
+    for pair in rows.iter() {
         let (row, wanted) = *pair;
-        let mut script = String::new(rt.alloc());
+        let mut script = String::new(alloc);
         match row.strip_prefix("$") {
             Some(rest) => {
                 script.push_str(HEAD)?;
@@ -260,10 +281,16 @@ fn each_verdict_is_told_with_its_place_and_its_hints(rt: HostRuntime) -> Result<
             }
             None => script.push_str(row)?,
         }
-        let told = told_of(rt.alloc(), script.as_bytes())?;
+        let told = told_of(alloc, script.as_bytes())?;
         assert!(rt; told.as_str() == wanted, "{told}\nand not\n{wanted}");
     }
     Ok(())
+}
+
+#[test]
+fn each_verdict_is_told_with_its_place_and_its_hints(rt: HostRuntime) -> Result<(), Fail> {
+    are_told(&rt, rt.alloc(), ROWS.as_slice())?;
+    are_told(&rt, rt.alloc(), MORE_ROWS.as_slice())
 }
 
 #[test]
