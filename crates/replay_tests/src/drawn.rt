@@ -1,5 +1,5 @@
-//! Scripts that draw, and what they leave, as data. Each stands behind an `@`: its counts with batches of 16 slots and with
-//! batches of 1024, and then the script, the report and the files as in `told.rt`. A `$` stands where a report has its line of
+//! Scripts that draw, and what they leave, as data. Each stands behind an `@`: its counts with batches of 16 slots, of 77 and
+//! of 1024, and then the script, the report and the files as in `told.rt`. A `$` stands where a report has its line of
 //! counts. A `\` ends a line that goes on. Each row of a frame has a line of its own, the uppermost first.
 
 /// First draws whose pictures follow from FORMATS.md and PROFILE.md by hand: memory that is written over behind a draw; a draw
@@ -12,7 +12,7 @@
 /// seen in those columns and rows that the scissor rectangle leaves. At last a fan that is as long as 25 slots, a draw that is
 /// put off, and one more behind the read of the frame: the memory of each is written over.
 pub(crate) const DRAWN: &str = "\
-@0 3 1 0 1~0 3 1 0 1~
+@0 3 1 0 1~0 3 1 0 1~0 3 1 0 1~
 glscript 1
 context 0 4 4 32
 0 mem 16 FFFF01FFFF01
@@ -31,7 +31,7 @@ end
 ffffff000000000000000000\
 ffffffffffff000000000000\
 ffffffffffffffffff000000
-@0 3 0 0 2~0 3 0 0 1~
+@0 3 0 0 2~0 3 0 0 1~0 3 0 0 1~
 glscript 1
 context 0 1 1 128
 0 EnableClientState VERTEX_ARRAY
@@ -43,7 +43,7 @@ glreport 1
 $images 1
 end
 ~frame-0.ppm 50360a3120310a3235350a000000
-@0 2 1 0 1~0 3 0 0 1~
+@0 2 1 0 1~0 3 0 0 1~0 3 0 0 1~
 glscript 1
 context 0 1 1 128
 0 EnableClientState VERTEX_ARRAY
@@ -55,7 +55,7 @@ glreport 1
 $images 1
 end
 ~frame-0.ppm 50360a3120310a3235350a000000
-@0 3 1 0 1~0 3 1 0 1~
+@0 3 1 0 1~0 3 1 0 1~0 3 1 0 1~
 glscript 1
 context 0 4 4 32
 0 mem 28 FFFF01FF
@@ -73,7 +73,7 @@ end
 000000000000000000000000\
 000000ffffff000000000000\
 ffffffffffffffffff000000
-@0 3 1 0 1~0 3 1 0 1~
+@0 3 1 0 1~0 3 1 0 1~0 3 1 0 1~
 glscript 1
 context 0 4 4 32
 0 mem 28 FFFF01FF
@@ -92,7 +92,7 @@ end
 000000000000000000000000\
 000000000000000000000000\
 000000000000000000000000
-@0 6 0 0 2~0 6 0 0 1~
+@0 6 0 0 2~0 6 0 0 1~0 6 0 0 1~
 glscript 1
 context 0 4 4 32
 0 mem 16 FFFF01FFFF010101
@@ -112,7 +112,7 @@ end
 404040404040404040404040\
 404040404040404040404040\
 404040404040404040404040
-@0 3 0 0 2~0 3 0 0 1~
+@0 3 0 0 2~0 3 0 0 1~0 3 0 0 1~
 glscript 1
 context 0 4 4 48
 0 mem 0 0000FFFF0000FFFF0000000000000100
@@ -131,7 +131,7 @@ ffffffffffff000000000000\
 ffffffffffff000000000000\
 ffffffffffff000000000000\
 ffffffffffff000000000000
-@0 3 0 0 2~0 3 0 0 1~
+@0 3 0 0 2~0 3 0 0 1~0 3 0 0 1~
 glscript 1
 context 0 4 4 48
 0 mem 0 0000FFFF0000FFFF0000000000000100
@@ -150,7 +150,7 @@ end
 000000000000000000000000\
 000000000000000000000000\
 000000000000000000000000
-@0 12 2 0 6~0 12 2 0 1~
+@0 12 2 0 6~0 12 2 0 2~0 12 2 0 1~
 glscript 1
 context 0 8 6 280
 0 mem 0 \
@@ -197,7 +197,7 @@ end
 00000000000062207d57485f4e6d44458f2c3dad1535c901\
 7c186b723755000000000000000000000000000000000000\
 000000000000000000000000000000000000000000000000
-@0 38 1 0 14~0 38 1 0 1~
+@0 38 1 0 14~0 38 1 0 3~0 38 1 0 1~
 glscript 1
 context 0 8 8 64
 0 mem 0 fcfcfd02fc03fc030104040204fefdfd0400
@@ -256,7 +256,7 @@ ffff00ffff00ffff00ffff00ffff0020c0ffffff00000000\
 ffff00ffff00ffff00ffff00ffff00ffff0020c0ff000000\
 ffff00ff4000ffff00ffff00ffff00ffff00ffff00000000\
 000000ff4000ff4000000000000000000000000000000000
-@0 10 3 0 4~0 11 2 0 2~
+@0 10 3 0 4~0 11 2 0 2~0 11 2 0 2~
 glscript 1
 context 0 5 4 160
 0 mem 0 \

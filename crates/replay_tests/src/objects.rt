@@ -10,7 +10,7 @@
 /// and past it, uploads and names that are longer than a batch of 16 slots, a draw by indices in client memory of vertices in a
 /// buffer, and one by indices of a buffer that has no store.
 pub(crate) const OBJECTS: &str = "\
-@0 3 0 0 2~0 3 0 0 1~
+@0 3 0 0 2~0 3 0 0 1~0 3 0 0 1~
 glscript 1
 context 0 4 4 32
 0 mem 8 050304
@@ -28,7 +28,7 @@ end
 ffffff000000000000000000\
 ffffffffffff000000000000\
 ffffffffffffffffff000000
-@0 4 1 0 2~0 4 1 0 1~
+@0 4 1 0 2~0 4 1 0 1~0 4 1 0 1~
 glscript 1
 context 0 4 4 32
 0 mem 8 050304
@@ -48,7 +48,7 @@ end
 ffffff000000000000000000\
 ffffffffffff000000000000\
 ffffffffffffffffff000000
-@0 6 0 1 2~0 6 0 1 1~
+@0 6 0 1 2~0 6 0 1 1~0 6 0 1 1~
 glscript 1
 context 0 4 4 32
 0 mem 4 01000000
@@ -71,7 +71,7 @@ end
 ffffff000000000000000000\
 ffffffffffff000000000000\
 ffffffffffffffffff000000
-@0 2 5 0 2~0 2 5 0 2~
+@0 2 5 0 2~0 2 5 0 2~0 2 5 0 2~
 glscript 1
 context 0 1 1 16
 0 GenBuffers 2 0
@@ -92,7 +92,7 @@ glreport 1
 $images 1
 end
 ~frame-0.ppm 50360a3120310a3235350a000000
-@0 5 3 0 3~0 5 3 0 3~
+@0 5 3 0 3~0 5 3 0 3~0 5 3 0 3~
 glscript 1
 context 0 2 1 128
 0 ClearColorx 0 65536 0 65536
@@ -114,7 +114,7 @@ $images 2
 end
 ~image-shot.ppm 50360a3220310a3235350a00ff0000ff00
 ~frame-0.ppm 50360a3220310a3235350a00ff0000ff00
-@0 21 1 0 9~0 21 1 0 1~
+@0 21 1 0 9~0 21 1 0 2~0 21 1 0 1~
 glscript 1
 context 0 6 5 64
 0 mem 4 FEFE02FE00020202
@@ -158,7 +158,7 @@ end
 00000000000060208020608040af80000000\
 000000c6063386463346863306c633000000\
 000000000000000000000000000000000000
-@0 13 5 4 6~0 13 5 4 2~
+@0 13 5 4 6~0 13 5 4 2~0 13 5 4 2~
 glscript 1
 context 0 4 4 64
 0 mem 0 0500000006000000
@@ -218,7 +218,7 @@ end
 00ff00000000000000000000\
 00ff0000ff00000000000000\
 00ff0000ff0000ff00000000
-@0 12 23 4 6~0 12 23 4 5~
+@0 12 23 4 6~0 12 23 4 5~0 12 23 4 5~
 glscript 1
 context 0 1 1 64
 0 GenBuffers 3 0
@@ -299,7 +299,7 @@ end
 ~image-names.ppm 50360a3320310a3235350a020000030000040000
 ~image-textures.ppm 50360a3320310a3235350a020000030000040000
 ~frame-0.ppm 50360a3120310a3235350a000000
-@0 27 34 0 24~0 27 34 0 23~
+@0 27 34 0 24~0 27 34 0 23~0 27 34 0 23~
 glscript 1
 context 0 1 1 16
 0 BindBuffer 0x8894 1
@@ -403,7 +403,7 @@ glreport 1
 $images 1
 end
 ~frame-0.ppm 50360a3120310a3235350a000000
-@0 19 5 0 9~0 21 3 0 3~
+@0 19 5 0 9~0 21 3 0 4~0 21 3 0 3~
 glscript 1
 context 0 5 5 96
 0 mem 40 FEFE

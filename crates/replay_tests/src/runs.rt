@@ -6,7 +6,7 @@ use crate::drawn::DRAWN;
 use crate::limits::{LARGE, MOST_BATCHES, MOST_LINES, PAST_LIMITS, SMALL};
 use crate::objects::OBJECTS;
 use crate::texture_errors::TEXTURE_ERRORS;
-use crate::textures::TEXTURES;
+use crate::textures::{LARGE_IMAGES, TEXTURES};
 use crate::told::{REFUSED, RUNS};
 use crate::ways::{Left, Outside, Ready, WAYS, Way, replay_over, wait_over};
 use batch_rail::{JournalMaker, RailKind};
@@ -173,8 +173,8 @@ fn each_script_has_its_report_and_its_images(rt: HostRuntime) -> Result<(), Fail
     Ok(())
 }
 
-/// Runs each of these scripts in this way: by `direct` where that can be had, and with batches of each of the two
-/// sizes. Counts the runs.
+/// Runs each of these scripts in this way: by `direct` where that can be had, and with batches of each of the
+/// three sizes. Counts the runs.
 fn count_drawn<T: Threads + Wait + Copy + Send + Sync + Abort + 'static>(
     rt: T,
     alloc: Global,
@@ -185,11 +185,13 @@ fn count_drawn<T: Threads + Wait + Copy + Send + Sync + Abort + 'static>(
     for told in scripts.split('@') {
         if !told.is_empty() {
             let (small, rest) = told.split_once('~').ok_or("no counts")?;
+            let (middle, rest) = rest.split_once('~').ok_or("no counts")?;
             let (large, rest) = rest.split_once('~').ok_or("no counts")?;
             let (before, behind) = rest.split_once('$').ok_or("no place for counts")?;
             let runs = [
                 format!(in alloc; "direct~done~{before}{behind}")?,
                 format!(in alloc; "run --batch 16~done~{before}counts {small}\n{behind}")?,
+                format!(in alloc; "run --batch 77~done~{before}counts {middle}\n{behind}")?,
                 format!(in alloc; "run --batch 1024~done~{before}counts {large}\n{behind}")?,
             ];
             for told in &runs {
@@ -216,20 +218,26 @@ fn check_drawn<T: Threads + Wait + Copy + Send + Sync + Abort + 'static>(
 // The first eight were worked by hand, and another program gives the same; the others are that program's.
 #[test]
 fn each_script_that_draws_has_its_report_and_its_images(rt: HostRuntime) -> Result<(), Fail> {
-    check_drawn(rt, rt.alloc(), DRAWN, [33, 33, 22, 22])
+    check_drawn(rt, rt.alloc(), DRAWN, [44, 44, 33, 33])
 }
 
 // The first five were worked by hand, and another program gives the same; the others are that program's.
 #[test]
 fn each_script_of_objects_has_its_report_and_its_images(rt: HostRuntime) -> Result<(), Fail> {
-    check_drawn(rt, rt.alloc(), OBJECTS, [30, 30, 20, 20])
+    check_drawn(rt, rt.alloc(), OBJECTS, [40, 40, 30, 30])
 }
 
 // The first three were worked by hand, and another program gives the same; the others are that program's.
 #[test]
 fn each_script_of_textures_has_its_report_and_its_images(rt: HostRuntime) -> Result<(), Fail> {
-    check_drawn(rt, rt.alloc(), TEXTURES, [27, 27, 18, 18])?;
-    check_drawn(rt, rt.alloc(), TEXTURE_ERRORS, [3, 3, 2, 2])
+    check_drawn(rt, rt.alloc(), TEXTURES, [36, 36, 27, 27])?;
+    check_drawn(rt, rt.alloc(), TEXTURE_ERRORS, [4, 4, 3, 3])
+}
+
+// The report, the counts and the images are those of another program.
+#[test]
+fn images_of_the_most_texels_are_had_whole(rt: HostRuntime) -> Result<(), Fail> {
+    check_drawn(rt, rt.alloc(), LARGE_IMAGES, [4, 4, 3, 3])
 }
 
 // The lines and the faults are those of FORMATS.md, and of another program. Other words that are

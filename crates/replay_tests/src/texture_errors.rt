@@ -2,7 +2,7 @@
 
 /// Each error of the five calls, the first of several, and one that is found behind a later error.
 pub(crate) const TEXTURE_ERRORS: &str = "\
-@0 42 41 0 41~0 42 41 0 40~
+@0 42 41 0 41~0 42 41 0 40~0 42 41 0 40~
 glscript 1
 context 0 1 1 16
 0 TexEnvi 0x2301 0 0
