@@ -47,6 +47,9 @@ def check_statuses():
         done = run(command, text=b"glscript 2\n")
         wants(command, (done.returncode, done.stdout), (4, b""))
         wants(command, done.stderr.split(b"\n")[0], b"<stdin>:1:10: BadHeader: the script doesn't begin with 'glscript 1'")
+        done = run(command, text=red.replace(b"COLOR_BUFFER_BIT", b"COLOUR_BUFFER_BIT"))
+        wants(command, (done.returncode, done.stdout), (4, b""))
+        wants(command, done.stderr.split(b"\n")[0], b"<stdin>:4:9: BadNumber: 'COLOUR_BUFFER_BIT' is no number and no known name")
 
 
 def check_words():
@@ -105,6 +108,28 @@ def check_counts():
             lines = run("trace", "--batch", size, str(script)).stdout.decode().splitlines()
             forms = (": .*put off into", ": .*waits because", ": .*answered by the shadow", r"^  batch \d+ ends ")
             wants(script.stem, tuple(sum(bool(re.search(form, line)) for line in lines) for form in forms), wanted)
+
+
+def check_only():
+    """The lines that `--only` lists beside those of the whole trace, and the sums of `--json` beside the same lines."""
+    for script in sorted(EXAMPLES.glob("*.gls")):
+        if script.stem == "refused":
+            continue
+        for size in ("16", "1024"):
+            lines = run("trace", "--batch", size, str(script)).stdout.decode().splitlines()
+            calls = [line for line in lines if not line.startswith("  batch ")]
+            errors = [line for line in calls if re.search(r": (replied [^;]*; )?(INVALID_|STACK_|OUT_OF_)\w+(, but \w+ is recorded already)?; ", line)]
+            waits = [line for line in calls if "waits because " in line]
+            for only, wanted in (("errors", errors), ("waits", waits)):
+                listed = run("trace", "--only", only, "--batch", size, str(script)).stdout.decode().splitlines()
+                wants(f"{script.stem} --only {only}", listed, wanted)
+            sums = json.loads(run("counts", "--json", "--batch", size, str(script)).stdout)
+            wants(script.stem, (sums["calls"], sums["slots"]), (len(calls), int(size)))
+            wants(script.stem, sum(row["count"] for row in sums["waits"]), len(waits))
+            wants(script.stem, sum(row["count"] for row in sums["errors"]), len(errors))
+            ends = [line.split(" ends ", 1)[1] for line in lines if line.startswith("  batch ")]
+            wants(script.stem, (sum(sums["ends"].values()), sum(sums["used"])), (len(ends), len(ends)))
+            wants(script.stem, sums["ends"]["wait"], sum(end.startswith("by a call that waits") for end in ends))
 
 
 def strings(path, name):
@@ -172,6 +197,7 @@ def main():
         if REPLAY.exists():
             check_counts()
             check_random()
+        check_only()
     else:
         print("docs/check_why.py: crates/glwhy/out/glwhy isn't built, and only names are compared")
     for line in wrong:
